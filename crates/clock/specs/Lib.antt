@@ -1,0 +1,3 @@
+pub mod Time
+pub mod Plain
+pub mod Superdense

@@ -1,0 +1,5 @@
+pub mod Catalogue
+pub mod Gen
+pub mod Kind
+pub mod Line
+pub mod Uart

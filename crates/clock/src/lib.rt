@@ -2,5 +2,6 @@
 pub mod clock;
 pub mod dense;
 pub mod plain;
+pub mod show;
 pub mod superdense;
 pub mod ticks;

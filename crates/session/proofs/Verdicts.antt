@@ -161,6 +161,6 @@ module _ {P C : Type 0} (M : Model P C) (horizon : C) (laws : Laws (M .time)) wh
 
   pub runsto-only : (budget : ℕ) (before after : Traced P C) (r : Result Ran Refusal) → RunsTo M horizon budget before after r → OnlyOutcome (RunsTo M horizon budget before) after r
   runsto-only budget before after r h other q k =
-      asks-only after other r q h k (λ a b. asks-only after other r q a b (λ a b.
+      asks-only 11 after other r q h k (λ a b. asks-only 12 after other r q a b (λ a b.
       let same = run-only budget before after other (a .0) (b .0) (a .2) (b .2) in
       (same .0, b .1 ∙ ap Ok (same .1) ∙ sym (a .1))))

@@ -15,21 +15,25 @@ use Rattle.coupling.specs.Wiring.{Wiring, reached}
 use Rattle.coupling.specs.declared.coupling.Source.{Source}
 use Rattle.coupling.specs.declared.coupling.Source.the-variants as source
 use Rattle.session.specs.Machine.{Model, Memory, dues, Imminent, NoneDue, deliver, event-of, fired, output-of}
+use Rattle.session.specs.Numbers.{refusal-number, stop-number}
 use Rattle.session.specs.declared.places.Place.{Place}
 use Rattle.session.specs.declared.places.Event.{Event}
 use Rattle.session.specs.declared.answers.Refusal.{Refusal}
-use Rattle.session.specs.declared.answers.Refusal.the-variants as refusal
 use Rattle.session.specs.declared.answers.Stop.{Stop}
-use Rattle.session.specs.declared.answers.Stop.the-variants as stop
 use Rattle.session.specs.declared.answers.Ran.{Ran}
 use Rattle.session.specs.declared.decision.Decision.{Decision}
 use Rattle.session.specs.declared.decision.Decision.the-variants.{Halt, Fire}
 use Rattle.session.specs.declared.answers.Firing.{Firing}
 use Rattle.session.specs.declared.answers.Firing.the-variants.{Output, Silent}
 
--- A question. Where its answer is no, the call ends with this refusal and changes nothing; else the call goes on.
-abbrev pub Asks : {T M : Type 0} → Type 0 → Refusal → M → M → Result T Refusal → Type 0 → Type 0
-Asks bad e before after r goes-on = (bad × (r ≡ Err e) × (after ≡ before)) ⊎ ((bad → ⊥) × goes-on)
+-- the answer is the refusal of this number
+abbrev pub Refuses : {T : Type 0} → ℕ → Result T Refusal → Type 0
+Refuses n (Ok x) = ⊥
+Refuses n (Err e) = refusal-number e ≡ n
+
+-- A question. Where its answer is bad, the call ends with this number and changes nothing; else the call goes on.
+abbrev pub Asks : {T M : Type 0} → Type 0 → ℕ → M → M → Result T Refusal → Type 0 → Type 0
+Asks bad n before after r goes-on = (bad × Refuses n r × (after ≡ before)) ⊎ ((bad → ⊥) × goes-on)
 
 -- a refusal leaves memory as it was
 abbrev pub Kept : {T M : Type 0} → M → M → Result T Refusal → Type 0
@@ -59,7 +63,7 @@ DueBefore {C} time ds m = (j : ℕ) × (t : C) × (getD ds j None ≡ Some t) ×
 -- open: every part's place gets its start state and last moment zero, and now is zero
 abbrev pub Opens : {P C : Type 0} → Model P C → List P → Memory P C → Memory P C → Result Unit Refusal → Type 0
 Opens M starts before after r =
-    Asks (Few (M .wiring) (before .places) ⊎ Few (M .wiring) starts) refusal.TooFewPlaces before after r
+    Asks (Few (M .wiring) (before .places) ⊎ Few (M .wiring) starts) 11 before after r
     ((r ≡ Ok tt) × (after ≡ record {
       places = map (λ s. record { part = s; last = M .time .zero }) (take (M .wiring .parts) starts) ++ drop (M .wiring .parts) (before .places);
       now = M .time .zero;
@@ -68,18 +72,18 @@ Opens M starts before after r =
 -- next: the earliest moment at which a part is due, or never
 abbrev pub Next : {P C : Type 0} → Model P C → List (Place P C) → Result (Option C) Refusal → Type 0
 Next {P} {C} M places r =
-    Asks (Few (M .wiring) places) refusal.TooFewPlaces (tt {0}) (tt {0}) r
+    Asks (Few (M .wiring) places) 11 (tt {0}) (tt {0}) r
     ((NoneDue (dues M places) × (r ≡ Ok None))
     ⊎ ((m : C) × (i : ℕ) × Imminent (M .time) (dues M places) m i × (r ≡ Ok (Some m))))
 
 -- put: an input from outside
 abbrev pub Puts : {P C : Type 0} → Model P C → C → ℕ → ℕ → Memory P C → Memory P C → Result Unit Refusal → Type 0
 Puts M m pins v before after r =
-    Asks (Few (M .wiring) (before .places)) refusal.TooFewPlaces before after r
-    (Asks (M .time .within m ≡ false) refusal.BeyondCeiling before after r
-    (Asks (BadPins (M .wiring) pins) refusal.BadPins before after r
-    (Asks (M .time .leq (before .now) m ≡ false) refusal.BeforeNow before after r
-    (Asks (DueBefore (M .time) (dues M (before .places)) m) refusal.PartDueBefore before after r
+    Asks (Few (M .wiring) (before .places)) 11 before after r
+    (Asks (M .time .within m ≡ false) 12 before after r
+    (Asks (BadPins (M .wiring) pins) 13 before after r
+    (Asks (M .time .leq (before .now) m ≡ false) 14 before after r
+    (Asks (DueBefore (M .time) (dues M (before .places)) m) 15 before after r
     ((r ≡ Ok tt) × (after ≡ record { places = deliver M m source.Board pins v (before .places); now = m }))))))
 
 -- a delivery changes exactly the places that are reached
@@ -109,10 +113,10 @@ pub record FiredAlone {P C : Type 0} (M : Model P C) (before after : List (Place
 -- step: the imminent part fires
 abbrev pub Steps : {P C : Type 0} → Model P C → Memory P C → Memory P C → Result (Firing C) Refusal → Type 0
 Steps {P} {C} M before after r =
-    Asks (Few (M .wiring) (before .places)) refusal.TooFewPlaces before after r
-    (Asks (NoneDue (dues M (before .places))) refusal.NothingDue before after r
+    Asks (Few (M .wiring) (before .places)) 11 before after r
+    (Asks (NoneDue (dues M (before .places))) 16 before after r
     ((m : C) × (i : ℕ) × Imminent (M .time) (dues M (before .places)) m i
-    × Asks (M .time .within m ≡ false) refusal.DueBeyondCeiling before after r
+    × Asks (M .time .within m ≡ false) 17 before after r
     ((r ≡ Ok (told (event-of M (before .places) m i))) × (after ≡ after-firing M before m i))))
 
 -- Whether a run stops, with so much budget left and so many records free: each reason is asked after those above it.
@@ -124,15 +128,18 @@ module _ {P C : Type 0} (M : Model P C) (horizon : C) where
     pub by-horizon : M .time .leq m horizon ≡ true
     pub by-ceiling : M .time .within m ≡ true
 
+  -- the reasons, by their numbers from 1
+  abbrev pub reasons : ℕ → ℕ → List (Place P C) → List (Type 0)
+  reasons budget room places =
+      (budget ≡ 0)
+      ∷ ((0 < budget) × NoneDue (dues M places))
+      ∷ ((0 < budget) × ((m : C) × (i : ℕ) × Imminent (M .time) (dues M places) m i × (M .time .leq m horizon ≡ false)))
+      ∷ ((0 < budget) × ((m : C) × (i : ℕ) × Imminent (M .time) (dues M places) m i × (M .time .leq m horizon ≡ true) × (M .time .within m ≡ false)))
+      ∷ ((m : C) × (i : ℕ) × Ready budget places m i × (0 < event-of M places m i .pins) × (room ≡ 0))
+      ∷ []
+
   abbrev pub Halts : ℕ → ℕ → List (Place P C) → Stop → Type 0
-  Halts budget room places stop.Budget = budget ≡ 0
-  Halts budget room places stop.NothingDue = (0 < budget) × NoneDue (dues M places)
-  Halts budget room places stop.Horizon =
-      (0 < budget) × ((m : C) × (i : ℕ) × Imminent (M .time) (dues M places) m i × (M .time .leq m horizon ≡ false))
-  Halts budget room places stop.Ceiling =
-      (0 < budget) × ((m : C) × (i : ℕ) × Imminent (M .time) (dues M places) m i × (M .time .leq m horizon ≡ true) × (M .time .within m ≡ false))
-  Halts budget room places stop.TraceFull =
-      (m : C) × (i : ℕ) × Ready budget places m i × (0 < event-of M places m i .pins) × (room ≡ 0)
+  Halts budget room places why = getD (⊥ ∷ reasons budget room places) (stop-number why) ⊥
 
   -- what a run does next
   abbrev pub Decided : ℕ → ℕ → List (Place P C) → Decision C → Type 0
@@ -177,6 +184,6 @@ LaterKept (Err e) before after = after ≡ before
 -- run: steps are repeated
 abbrev pub RunsTo : {P C : Type 0} → Model P C → C → ℕ → Traced P C → Traced P C → Result Ran Refusal → Type 0
 RunsTo M horizon budget before after r =
-    Asks (Few (M .wiring) (before .memory .places)) refusal.TooFewPlaces before after r
-    (Asks (M .time .within horizon ≡ false) refusal.BeyondCeiling before after r
+    Asks (Few (M .wiring) (before .memory .places)) 11 before after r
+    (Asks (M .time .within horizon ≡ false) 12 before after r
     ((k : Ran) × (r ≡ Ok k) × Run M horizon budget before after k))

@@ -28,7 +28,7 @@ fn output_pins<P: Part<C>, C: Clock>(places: &[Place<P, C>], part: usize) -> u8
 }
 
 // Why the run stops, or what fires, with so much budget and so many records left.
-pub fn decide<P: Part<C>, C: Clock, K: Coupling>(
+pub(crate) fn decide<P: Part<C>, C: Clock, K: Coupling>(
     coupling: &K,
     places: &[Place<P, C>],
     horizon: C,

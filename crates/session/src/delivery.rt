@@ -38,7 +38,7 @@ impl<P: Part<C>, C: Clock> Place<P, C> {
 }
 
 // Gives each of the first `parts` parts its pin set of the row.
-pub fn deliver<P: Part<C>, C: Clock>(
+pub(crate) fn deliver<P: Part<C>, C: Clock>(
     places: &mut [Place<P, C>],
     parts: usize,
     row: &Row,
@@ -58,7 +58,7 @@ pub fn deliver<P: Part<C>, C: Clock>(
 }
 
 // The due part gives its output and takes internal, and the output is delivered.
-pub fn fire<P: Part<C>, C: Clock, K: Coupling>(
+pub(crate) fn fire<P: Part<C>, C: Clock, K: Coupling>(
     places: &mut [Place<P, C>],
     coupling: &K,
     due: Due<C>,

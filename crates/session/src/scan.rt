@@ -42,7 +42,7 @@ fn sooner_of<C: Clock>(best: Option<Due<C>>, part: usize, moment: Option<C>) -> 
 }
 
 // The imminent one of the first `parts` parts, or nothing where none will ever fire.
-pub fn imminent<P: Part<C>, C: Clock>(places: &[Place<P, C>], parts: usize) -> Option<Due<C>>
+pub(crate) fn imminent<P: Part<C>, C: Clock>(places: &[Place<P, C>], parts: usize) -> Option<Due<C>>
     requires in_range { ⌜ parts ≤ length (now places) ⌝ }
     ensures is_imminent { λ r. ⌜ First (C·Clock .time) (map (due (C·Clock .time) (P·Part .kind)) (take parts (now (places .entry)))) r ⌝ }
     ensures is_one_of_the_parts { λ r. ⌜ Cases r (Unit {0}) (λ d. d .part < parts) ⌝ }

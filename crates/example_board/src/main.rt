@@ -23,8 +23,8 @@ use std::alloc::Global;
 use std::error::AnyError;
 use std::io;
 
-// The parts in the order written: a delay line inside the block io, and a generator beside it.
-const NAMES: [&str; 2] = ["io/a", "g"];
+// The parts in the order written: a delay line, and a generator that feeds it.
+const NAMES: [&str; 2] = ["a", "g"];
 
 // What can go wrong before the run.
 enum Trouble {
@@ -115,7 +115,7 @@ fn report(rt: &impl Print, ran: Ran, trace: &[Event<Dense>]) -> io::Result<()> {
     )?;
     println!(
         rt,
-        "io/a (4 ticks), which feeds the board's output pin 0. Run from opening to 12:0:"
+        "a (4 ticks), which feeds the board's output pin 0. Run from opening to 12:0:"
     )?;
     for event in trace.iter().take(usize::from(ran.events)) {
         print_event(rt, event)?;

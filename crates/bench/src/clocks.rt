@@ -1,5 +1,8 @@
 // Both clocks, on examples.
+use crate::helpers::Beyond;
+use crate::helpers::BeyondDebug;
 use crate::moments::at;
+use crate::moments::ticks;
 use clock::clock::Clock;
 use clock::dense::Dense;
 use clock::dense::DenseDebug;
@@ -10,14 +13,6 @@ use clock::ticks::Ticks;
 use clock::ticks::TicksDebug;
 use clock::ticks::TicksPartialEq;
 use std::test::*;
-
-fn dense(tick: u64, micro: u32) -> Result<Dense, Fail> {
-    Ok(Dense::new(tick, micro).ok_or("beyond the largest value")?)
-}
-
-fn ticks(count: u64) -> Result<Ticks, Fail> {
-    Ok(Ticks::new(count).ok_or("beyond the largest value")?)
-}
 
 #[test]
 fn dense_sums() -> Result<(), Fail> {
@@ -40,7 +35,7 @@ fn dense_waits() -> Result<(), Fail> {
 
 #[test]
 fn dense_largest() -> Result<(), Fail> {
-    let largest = dense(8_589_934_590, 16_842_750)?;
+    let largest = Dense::new(8_589_934_590, 16_842_750).ok_or(Beyond)?;
     check_eq(largest.plus(at(0, 1)), largest)?;
     check_eq(Dense::new(8_589_934_591, 0), None)?;
     check_eq(Dense::new(0, 16_842_751), None)
@@ -48,24 +43,29 @@ fn dense_largest() -> Result<(), Fail> {
 
 #[test]
 fn dense_ceiling() -> Result<(), Fail> {
-    check(dense(4_294_967_295, 16_777_215)?.within_ceiling())?;
-    check(!dense(4_294_967_296, 0)?.within_ceiling())?;
-    check(!dense(0, 16_777_216)?.within_ceiling())
+    check(
+        Dense::new(4_294_967_295, 16_777_215)
+            .ok_or(Beyond)?
+            .within_ceiling(),
+    )?;
+    check(!Dense::new(4_294_967_296, 0).ok_or(Beyond)?.within_ceiling())?;
+    check(!Dense::new(0, 16_777_216).ok_or(Beyond)?.within_ceiling())
 }
 
 #[test]
 fn plain_sums_and_gaps() -> Result<(), Fail> {
-    check_eq(ticks(3)?.plus(ticks(4)?), ticks(7)?)?;
-    check_eq(ticks(3)?.gap_to(ticks(7)?), ticks(4)?)?;
-    check_eq(ticks(7)?.gap_to(ticks(3)?), ticks(0)?)?;
-    check_eq(Ticks::wait(0), ticks(0)?)
+    check_eq(ticks(3).plus(ticks(4)), ticks(7))?;
+    check_eq(ticks(3).gap_to(ticks(7)), ticks(4))?;
+    check_eq(ticks(7).gap_to(ticks(3)), ticks(0))?;
+    check_eq(Ticks::wait(0), ticks(0))?;
+    check_eq(Ticks::wait(4), ticks(4))
 }
 
 #[test]
 fn plain_limits() -> Result<(), Fail> {
-    let largest = ticks(8_589_934_590)?;
-    check_eq(largest.plus(ticks(1)?), largest)?;
-    check(ticks(4_294_967_295)?.within_ceiling())?;
-    check(!ticks(4_294_967_296)?.within_ceiling())?;
-    check_eq(Ticks::new(8_589_934_591), None)
+    let largest = Ticks::new(8_589_934_590).ok_or(Beyond)?;
+    check_eq(largest.plus(ticks(1)), largest)?;
+    check_eq(Ticks::new(8_589_934_591), None)?;
+    check(ticks(4_294_967_295).within_ceiling())?;
+    check(!Ticks::new(4_294_967_296).ok_or(Beyond)?.within_ceiling())
 }

@@ -1,0 +1,9 @@
+use Rattle.bench.proofs.Wires.{chain-wired}
+use Rattle.bench.proofs.boards.chain.Needs as need
+
+pub returns : need.returns
+returns c =
+    record {
+      is-wired-or-finds-no-memory = chain-wired (c .in-Continue-board .board) (c .wire .last .self) (c .wire-2 .last .self) (c .in-Continue-board .ensures tt .has-no-wires-or-refuses)
+          (c .in-Continue-wire .ensures tt .adds-the-wire-or-refuses) (c .in-Continue-wire-2 .ensures tt .adds-the-wire-or-refuses);
+    }

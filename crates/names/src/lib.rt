@@ -1,0 +1,3 @@
+// The names of blocks and parts.
+pub mod name;
+pub mod naming;

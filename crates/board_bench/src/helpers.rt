@@ -1,8 +1,8 @@
 // What the tests share.
 use crate::letters::child;
 use crate::letters::numbered;
+use board::nested::Board;
 use drawing::drawing::Drawing;
-use drawing::ends::WireEnd;
 use drawing::fault::Fault;
 use drawing::fault::FaultDebug;
 use drawing::fault::FaultPartialEq;
@@ -23,22 +23,25 @@ pub fn nth(k: u8) -> Result<Name, Fail> {
     Ok(numbered(k).ok_or(Unnamed)?)
 }
 
-// A pin of the child of this name.
-pub fn at(text: &[u8], pin: u8) -> Result<WireEnd, Fail> {
-    Ok(child(named(text)?, pin))
-}
-
 // The call was refused for this fault, and the fault has this number.
 pub fn refused(answer: Result<(), Fault>, fault: Fault, number: u8) -> Result<(), Fail> {
     check_eq(answer, Err(fault))?;
     check_eq(fault.number(), number)
 }
 
-// The drawing is not finished.
-pub fn unfinished(drawing: Drawing<u8>) -> Result<(), Fail> {
+// The drawing is not finished, and is given back.
+pub fn unfinished(drawing: Drawing<u8>) -> Result<Drawing<u8>, Fail> {
     match drawing.finish() {
         Ok(_) => Err(Fail::new("finished")),
-        Err(fault) => check_eq(fault, Fault::Misplaced),
+        Err(back) => Ok(back),
+    }
+}
+
+// The board of a drawing that is closed.
+pub fn finished(drawing: Drawing<u8>) -> Result<Board<u8>, Fail> {
+    match drawing.finish() {
+        Ok(board) => Ok(board),
+        Err(_) => Err(Fail::new("not finished")),
     }
 }
 

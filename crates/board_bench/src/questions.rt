@@ -1,4 +1,5 @@
 // What each call refuses: pins, names, ends, loops, wires that stand, and calls out of place.
+use crate::helpers::finished;
 use crate::helpers::named;
 use crate::helpers::opened;
 use crate::helpers::refused;
@@ -95,15 +96,17 @@ fn nothing_is_drawn_outside_the_board(rt: LibcRuntime) -> Result<(), Fail> {
     refused(drawing.add_wire(own(8), own(8)), Fault::Misplaced, 0)?;
     refused(drawing.open_block(p, 9, 9), Fault::Misplaced, 0)?;
     refused(drawing.close_block(), Fault::Misplaced, 0)?;
-    check_eq(drawing.finish()?.plan.components.len(), 1)
+    check_eq(finished(drawing)?.plan.components.len(), 1)
 }
 
 #[test]
 fn a_board_is_finished_once_it_is_closed(rt: LibcRuntime) -> Result<(), Fail> {
-    unfinished(Drawing::new(rt.alloc()))?;
-    unfinished(opened(rt.alloc(), 0, 0)?)?;
-    let mut drawing = opened(rt.alloc(), 0, 0)?;
+    let mut drawing = unfinished(Drawing::new(rt.alloc()))?;
+    drawing.open_block(named(b"top")?, 0, 0)?;
+    let mut drawing = unfinished(drawing)?;
     drawing.open_block(named(b"x")?, 0, 0)?;
     drawing.close_block()?;
-    unfinished(drawing)
+    let mut drawing = unfinished(drawing)?;
+    drawing.close_block()?;
+    check_eq(finished(drawing)?.plan.blocks.len(), 2)
 }

@@ -120,12 +120,12 @@ impl<P: Drop> Drawing<P> {
         put_wire(&mut self.plan, wire)
     }
 
-    // The board, once it is drawn and closed.
-    pub fn finish(self) -> Result<Board<P>, Fault>
-        ensures gives_the_board_or_refuses { λ r. ⌜ Cases r (λ b. Finished self b) (λ e. (e ≡ Misplaced) × Unfinished self) ⌝ }
+    // The board, once it is drawn and closed; else the drawing is given back.
+    pub fn finish(self) -> Result<Board<P>, Drawing<P>>
+        ensures gives_the_board_or_the_drawing_back { λ r. ⌜ Cases r (λ b. Finished self b) (λ d. (d ≡ self) × Unfinished self) ⌝ }
     {
         if self.current.is_some() || self.plan.blocks.is_empty() {
-            return Err(Fault::Misplaced);
+            return Err(self);
         }
         let Drawing {
             plan,

@@ -1,5 +1,6 @@
 // A board four blocks deep: deck holds bay, bay holds slot, and inputs fan out at every level.
 use crate::drawn::child;
+use crate::drawn::finished;
 use crate::drawn::generator;
 use crate::drawn::line;
 use crate::drawn::name;
@@ -57,6 +58,5 @@ pub fn board(heap: Global) -> Result<Board<Catalogue<Dense>>, Trouble> {
     drawing.add_wire(child(b"deck")?, own(0))?;
     drawing.add_wire(child(b"deck")?, own(1))?;
     drawing.close_block()?;
-    let board = drawing.finish()?;
-    Ok(board)
+    finished(drawing)
 }

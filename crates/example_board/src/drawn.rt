@@ -41,6 +41,14 @@ pub fn generator(period: u16, value: u8, step: u8) -> Result<Catalogue<Dense>, T
     }
 }
 
+// The board of a drawing that is closed.
+pub fn finished(drawing: Drawing<Catalogue<Dense>>) -> Result<Board<Catalogue<Dense>>, Trouble> {
+    match drawing.finish() {
+        Ok(board) => Ok(board),
+        Err(_) => Err(Trouble::Open),
+    }
+}
+
 // The block io: a delay line between its input and its output.
 fn draw_io(drawing: &mut Drawing<Catalogue<Dense>>) -> Result<(), Trouble> {
     drawing.open_block(name(b"io")?, 1, 1)?;
@@ -59,6 +67,5 @@ pub fn example(heap: Global) -> Result<Board<Catalogue<Dense>>, Trouble> {
     drawing.add_wire(child(b"g")?, child(b"io")?)?;
     drawing.add_wire(child(b"io")?, own(0))?;
     drawing.close_block()?;
-    let board = drawing.finish()?;
-    Ok(board)
+    finished(drawing)
 }

@@ -137,6 +137,7 @@ pub fn complaint(trouble: Trouble) -> AnyError {
         Trouble::Name => "a name is not well formed".into(),
         Trouble::Part => "a part's numbers are out of range".into(),
         Trouble::Drawing(_) => "the drawing was refused".into(),
+        Trouble::Open => "a block is still open".into(),
         Trouble::Memory => "there is no memory left".into(),
         Trouble::Call(_) => "a call was refused".into(),
         Trouble::Print => "the output could not be written".into(),

@@ -8,6 +8,7 @@ pub enum Trouble {
     Name,
     Part,
     Drawing(Fault),
+    Open,
     Memory,
     Call(Refusal),
     Print,

@@ -1,4 +1,6 @@
 // A bench: boards wired by hand, and on them the tests of clocks, parts, networks and sessions.
+#![tactic(auto)]
+
 pub mod boards;
 #[cfg(test)]
 mod clocks;

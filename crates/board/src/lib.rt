@@ -1,4 +1,6 @@
 // Nested boards: blocks in blocks, parts in blocks, and wires inside blocks; and their flattening.
+#![tactic(auto)]
+
 pub mod flat;
 mod flatten;
 pub mod lending;

@@ -1,4 +1,6 @@
 // A bench for nested boards: on it the tests of drawing, flattening and lending.
+#![tactic(auto)]
+
 #[cfg(test)]
 mod counts;
 #[cfg(test)]

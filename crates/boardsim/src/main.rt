@@ -1,4 +1,6 @@
 // Checks, runs and plays boards that are written as netlist files.
+#![tactic(auto)]
+
 ghost use Rattle.std.specs.Prelude.{◌<◌, ◌≤◌, length};
 
 mod arguments;

@@ -1,4 +1,6 @@
 // Clocks: moments counted from opening, and spans between them.
+#![tactic(auto)]
+
 pub mod clock;
 pub mod dense;
 pub mod plain;

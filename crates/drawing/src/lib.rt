@@ -1,4 +1,6 @@
 // Drawing a nested board, block by block, part by part and wire by wire.
+#![tactic(auto)]
+
 pub mod draw;
 pub mod drawing;
 pub mod ends;

@@ -1,4 +1,6 @@
 // Draws two nested boards, flattens them, runs the first from opening to 12:0, and prints what it did.
+#![tactic(auto)]
+
 mod deep;
 mod drawn;
 mod print;

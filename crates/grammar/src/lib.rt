@@ -1,4 +1,6 @@
 // The lines of a netlist file: their text, and what each says.
+#![tactic(auto)]
+
 pub mod cut;
 mod ends;
 pub mod fault;

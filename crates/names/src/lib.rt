@@ -1,3 +1,5 @@
 // The names of blocks and parts.
+#![tactic(auto)]
+
 pub mod name;
 pub mod naming;

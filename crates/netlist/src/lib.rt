@@ -1,4 +1,6 @@
 // Netlist files: the reader, which builds the board that a file writes.
+#![tactic(auto)]
+
 mod blocks;
 pub mod fault;
 mod lines;

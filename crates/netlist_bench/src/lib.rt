@@ -1,4 +1,6 @@
 // A bench for netlist files: on it the tests of the boards that are read and of the faults that are found.
+#![tactic(auto)]
+
 #[cfg(test)]
 mod example;
 #[cfg(test)]

@@ -1,4 +1,6 @@
 // Reads cases from standard input, each a line NAME TEXT with the text of a netlist in the escaped form, and prints what the reader answers.
+#![tactic(auto)]
+
 mod escape;
 mod trouble;
 

@@ -1,3 +1,5 @@
 // A whole list of calls on a session, made one after another from opening.
+#![tactic(auto)]
+
 pub mod calls;
 pub mod replay;

@@ -1,4 +1,6 @@
 // What the command line and the files of the program say: moments, calls, and the words of commands.
+#![tactic(auto)]
+
 pub mod call;
 pub mod call_word;
 pub mod calls;

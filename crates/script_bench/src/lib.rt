@@ -1,4 +1,6 @@
 // Tests of what the command line and the files of the program say.
+#![tactic(auto)]
+
 #[cfg(test)]
 mod files;
 #[cfg(test)]

@@ -1,4 +1,6 @@
 // A session: a board's parts in the caller's memory, and the calls that move them.
+#![tactic(auto)]
+
 pub mod answers;
 mod decision;
 mod delivery;

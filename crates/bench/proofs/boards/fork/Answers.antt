@@ -4,6 +4,6 @@ use Rattle.bench.proofs.boards.fork.Goals as goal
 pub returns : goal.returns
 returns c =
     record {
-      is-wired-or-finds-no-memory = fork_wired c.in-ok-board.board c.wire.new.self c.wire-2.new.self c.in-ok-board.ensures.has-no-wires-or-refuses
-          c.in-ok-wire.ensures.adds-the-wire-or-refuses c.in-ok-wire-2.ensures.adds-the-wire-or-refuses;
+      is_wired_or_finds_no_memory = fork_wired c.in_ok-board.board c.wire.new.self c.wire-2.new.self c.in_ok-board.ensures.has_no_wires_or_refuses
+          c.in_ok-wire.ensures.adds_the_wire_or_refuses c.in_ok-wire-2.ensures.adds_the_wire_or_refuses;
     }

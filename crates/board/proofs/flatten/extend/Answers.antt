@@ -8,10 +8,10 @@ returns c = record {
     alone = c.alone.result;
     onto = c.join-onto.result;
     joined = c.join.result;
-    is_alone = c.alone.ensures.reaches-it-alone;
-    is_onto = joins_second _ _ _ _ (row_same c.args.rows.now _ _ _ c.place-of-to.ensures.is-the-place c.requires.have-rows.1) c.join-onto.ensures.reaches-what-either-does;
-    is_joined = joins_first _ _ _ _ (row_same c.args.rows.now _ _ _ c.place-of-from.ensures.is-the-place c.requires.have-rows.0) c.join.ensures.reaches-what-either-does;
+    is_alone = c.alone.ensures.reaches_it_alone;
+    is_onto = joins_second _ _ _ _ (row_same c.args.rows.now _ _ _ c.place_of-to.ensures.is_the_place c.requires.have_rows.1) c.join-onto.ensures.reaches_what_either_does;
+    is_joined = joins_first _ _ _ _ (row_same c.args.rows.now _ _ _ c.place_of-from.ensures.is_the_place c.requires.have_rows.0) c.join.ensures.reaches_what_either_does;
     whole = search rules;
-    stored = ap (λ n. set c.args.rows.now n c.join.result) c.place-of-from.ensures.is-the-place;
+    stored = ap (λ n. set c.args.rows.now n c.join.result) c.place_of-from.ensures.is_the_place;
   };
 }

@@ -8,23 +8,23 @@ abbrev parent_of : Block → ℕ
 parent_of b = b.parent
 
 pub returns-then-block-eq0 : goal.returns-then-block-eq0
-returns-then-block-eq0 t c = record { adds-the-way = added_none _ _ _ c.if-block-eq0.true }
+returns-then-block-eq0 t c = record { adds_the_way = added_none _ _ _ c.if-block-eq0.true }
 
-pub push-blocks-requires : goal.push-blocks-requires
-push-blocks-requires t c =
+pub push_blocks-requires : goal.push_blocks-requires
+push_blocks-requires t c =
     let plan = c.args.plan.now in
     let some : 0 < c.args.block = omega (arith, c.if-block-eq0.false) in
-    let up = plan.parents_first c.args.block (some, c.requires.is-there) in
-    let x = ap parent_of (read_block (vec_items plan.blocks) c.args.block _ c.index.ensures (omega (arith, c.requires.is-there, plan.blocks.ok.0))) in
-    (omega (arith, x, up, c.decreases), omega (arith, x, up, c.requires.is-there))
+    let up = plan.parents_first c.args.block (some, c.requires.is_there) in
+    let x = ap parent_of (read_block (vec_items plan.blocks) c.args.block _ c.index.ensures (omega (arith, c.requires.is_there, plan.blocks.ok.0))) in
+    (omega (arith, x, up, c.decreases), omega (arith, x, up, c.requires.is_there))
 
 pub returns : goal.returns
 returns t c =
     let plan = c.args.plan.now in
     let some : 0 < c.args.block = omega (arith, c.if-block-eq0.false) in
-    let x = read_block (vec_items plan.blocks) c.args.block _ c.index.ensures (omega (arith, c.requires.is-there, plan.blocks.ok.0)) in
-    let pushed = chosen _ _ _ _ c.push.ensures.items (ap is_ok c.in-ok-push.was) in
+    let x = read_block (vec_items plan.blocks) c.args.block _ c.index.ensures (omega (arith, c.requires.is_there, plan.blocks.ok.0)) in
+    let pushed = chosen _ _ _ _ c.push.ensures.items (ap is_ok c.in_ok-push.was) in
     record {
-      adds-the-way = added_block _ c.args.block c.index.result.now _ _ _ _ some (omega (arith, c.requires.is-there, plan.blocks.ok.0)) x
-          c.in-ok-push-blocks.ensures.adds-the-way c.in-ok-push-name.ensures.adds-the-name pushed;
+      adds_the_way = added_block _ c.args.block c.index.result.now _ _ _ _ some (omega (arith, c.requires.is_there, plan.blocks.ok.0)) x
+          c.in_ok-push_blocks.ensures.adds_the_way c.in_ok-push_name.ensures.adds_the_name pushed;
     }

@@ -2,8 +2,8 @@ use Rattle.std.proofs.Common.{vec_items, sym, subst, arith}
 use Rattle.drawing.proofs.Plans.{Sound, plan_sound, wire_more, either, stated}
 use Rattle.drawing.proofs.put.put_wire.Goals as goal
 
-pub invariant-of-plan : goal.invariant-of-plan
-invariant-of-plan c =
+pub invariant_of-plan : goal.invariant_of-plan
+invariant_of-plan c =
     let p = c.args.plan.now in
     stated _ _ _ _ _ _ p.blocks.ok.0 p.components.ok.0 c.push.new.self.ok.0
     (subst (λ l. Sound (vec_items p.blocks) (vec_items p.components) l) (sym c.push.ensures.items)

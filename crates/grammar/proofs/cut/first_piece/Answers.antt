@@ -8,10 +8,10 @@ pub returns-then-text-i : goal.returns-then-text-i
 returns-then-text-i c =
     let text = c.args.text.now in
     record {
-      takes-the-first-piece =
+      takes_the_first_piece =
           found _ text c.bytes.i _ _ c.bytes-test.true c.bytes.invariant c.if-text-i.true (ap (λ n. take n text) (sub-zero c.bytes.i))
           (take_rest text _);
     }
 
 pub returns : goal.returns
-returns c = record { takes-the-first-piece = whole _ _ _ c.bytes-test.false c.bytes.invariant }
+returns c = record { takes_the_first_piece = whole _ _ _ c.bytes-test.false c.bytes.invariant }

@@ -3,7 +3,7 @@ use Rattle.grammar.proofs.Pointing.{pointed, ended}
 use Rattle.grammar.proofs.ends.pinned_of.Goals as goal
 
 pub returns-in-46 : goal.returns-in-46
-returns-in-46 c = record { parts-it-or-refuses = pointed c.args.text.now (search rules) (search rules) (search rules) (search rules) }
+returns-in-46 c = record { parts_it_or_refuses = pointed c.args.text.now (search rules) (search rules) (search rules) (search rules) }
 
 pub returns-in-default : goal.returns-in-default
-returns-in-default c = record { parts-it-or-refuses = λ child k p. let e = ended child k c.args.text.now p in search rules }
+returns-in-default c = record { parts_it_or_refuses = λ child k p. let e = ended child k c.args.text.now p in search rules }

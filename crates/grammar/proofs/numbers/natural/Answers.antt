@@ -2,23 +2,23 @@ use Rattle.std.proofs.Common.{arith, rules}
 use Rattle.grammar.proofs.Counting.{more, small, shape, no_digit, done}
 use Rattle.grammar.proofs.numbers.natural.Goals as goal
 
-pub returns-then-is-empty : goal.returns-then-is-empty
-returns-then-is-empty c = record { reads-or-refuses = λ v l e. let s = shape v c.args.text.now l e in search rules }
+pub returns-then-is_empty : goal.returns-then-is_empty
+returns-then-is_empty c = record { reads_or_refuses = λ v l e. let s = shape v c.args.text.now l e in search rules }
 
 pub returns-then-text-gt1 : goal.returns-then-text-gt1
-returns-then-text-gt1 c = record { reads-or-refuses = λ v l e. let s = shape v c.args.text.now l e in search rules }
+returns-then-text-gt1 c = record { reads_or_refuses = λ v l e. let s = shape v c.args.text.now l e in search rules }
 
 pub returns-then-text-i-lt48 : goal.returns-then-text-i-lt48
-returns-then-text-i-lt48 c = record { reads-or-refuses = no_digit c.args.text.now c.digits.i c.digits-test.true (search rules) }
+returns-then-text-i-lt48 c = record { reads_or_refuses = no_digit c.args.text.now c.digits.i c.digits-test.true (search rules) }
 
-pub overflow-mul-value : goal.overflow-mul-value
-overflow-mul-value c = let s = small _ _ _ c.digits.invariant c.digits-test.true (search rules) in search rules
+pub overflow_mul-value : goal.overflow_mul-value
+overflow_mul-value c = let s = small _ _ _ c.digits.invariant c.digits-test.true (search rules) in search rules
 
-pub overflow-add-value : goal.overflow-add-value
-overflow-add-value c = let s = small _ _ _ c.digits.invariant c.digits-test.true (search rules) in search rules
+pub overflow_add-value : goal.overflow_add-value
+overflow_add-value c = let s = small _ _ _ c.digits.invariant c.digits-test.true (search rules) in search rules
 
 pub digits-preserved : goal.digits-preserved
 digits-preserved c = more _ _ _ _ c.digits.invariant c.digits-test.true (search rules) (search rules) (search rules)
 
 pub returns : goal.returns
-returns c = record { reads-or-refuses = done _ _ _ c.digits.invariant c.digits-test.false (search rules) (search rules) (search rules) }
+returns c = record { reads_or_refuses = done _ _ _ c.digits.invariant c.digits-test.false (search rules) (search rules) (search rules) }

@@ -7,6 +7,6 @@ use Rattle.grammar.proofs.rules.kind_numbers.Goals as goal
 pub returns-in-Gen : goal.returns-in-Gen
 returns-in-Gen c =
     record {
-      asks-in-order =
-          subst (λ w. KindSays w (left 32 c.args.fields.now.rest) c.args.number (judged line_verdict c.gen-numbers.result)) (sym c.in-Gen.is) c.gen-numbers.ensures.asks-in-order;
+      asks_in_order =
+          subst (λ w. KindSays w (left 32 c.args.fields.now.rest) c.args.number (judged line_verdict c.gen_numbers.result)) (sym c.in-Gen.is) c.gen_numbers.ensures.asks_in_order;
     }

@@ -11,5 +11,5 @@ returns c =
     let all = left 32 c.args.fields.now.rest in
     let last = left 32 c.number.new.self.rest in
     let many = c.requires.one in
-    let s1 = step (Numeral 1 65535) all last n 4 (omega arith) c.in-ok-baud.baud c.in-ok-baud.ensures.reads-or-refuses in
-    record { asks-in-order = uart_said n all last s1.text _ s1.is many s1.writes }
+    let s1 = step (Numeral 1 65535) all last n 4 (omega arith) c.in_ok-baud.baud c.in_ok-baud.ensures.reads_or_refuses in
+    record { asks_in_order = uart_said n all last s1.text _ s1.is many s1.writes }

@@ -4,9 +4,9 @@ use Rattle.netlist.proofs.reader.read_drawing.Goals as goal
 
 pub returns : goal.returns
 returns g c =
-    let opened = c.in-ok-open-board.ensures.opens-or-refuses in
+    let opened = c.in_ok-open_board.ensures.opens_or_refuses in
     record {
-      reads-or-refuses =
-          board_read g.C.Clock.time c.args.lines.now (sheet c.args.drawing.now) c.requires.nothing-is-drawn c.open-board.new.lines c.read-block.new.lines (sheet c.open-board.new.drawing) (sheet c.read-block.new.drawing) c.read-block.result
-          opened.0 opened.1 opened.2 c.read-block.ensures.reads-or-refuses;
+      reads_or_refuses =
+          board_read g.C.Clock.time c.args.lines.now (sheet c.args.drawing.now) c.requires.nothing_is_drawn c.open_board.new.lines c.read_block.new.lines (sheet c.open_board.new.drawing) (sheet c.read_block.new.drawing) c.read_block.result
+          opened.0 opened.1 opened.2 c.read_block.ensures.reads_or_refuses;
     }

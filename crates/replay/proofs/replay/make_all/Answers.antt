@@ -9,14 +9,14 @@ use Rattle.replay.proofs.replay.make_all.Goals as goal
 pub each-init : goal.each-init
 each-init g c = at_start _ c.args.calls.now _
 
-pub overflow-add-events : goal.overflow-add-events
-overflow-add-events g c =
+pub overflow_add-events : goal.overflow_add-events
+overflow_add-events g c =
     let M = model g.C.Clock.time g.P.Part.kind (g.K.Coupling.wiring c.args.coupling.now) in
     let rest = take (length c.each.trace - c.each.events) (drop c.each.events c.each.trace) in
     let fits : tells c.lend-answer.result ≤ length rest =
-    tells_fits M c.index-calls-i.result rest c.lend-answer.new.trace c.lend-answer.result c.lend-answer.ensures.the-machine-makes-it c.lend-answer.auto.trace in
+    tells_fits M c.index-calls-i.result rest c.lend-answer.new.trace c.lend-answer.result c.lend-answer.ensures.the_machine_makes_it c.lend-answer.auto.trace in
     let long = ap length (take_rest c.each.trace c.each.events) ∙ length-drop c.each.events c.each.trace in
-    omega (arith, fits, long, c.events-events.ensures.is-the-count-of-a-run, c.each.invariant.in_trace, c.each.auto.trace)
+    omega (arith, fits, long, c.events-events.ensures.is_the_count_of_a_run, c.each.invariant.in_trace, c.each.auto.trace)
 
 pub each-preserved : goal.each-preserved
 each-preserved g c =
@@ -31,9 +31,9 @@ each-preserved g c =
     let step =
     after_call M start c.args.calls.now before c.each.i n (loan c.each.places c.each.session.now c.each.answers trace) c.index-calls-i.result a c.lend-answer.new.places c.lend-answer.new.session.now
     (take (length trace - n) (drop n trace)) c.lend-answer.new.trace (take n trace ++ (c.lend-answer.new.trace ++ drop (length trace - n) (drop n trace))) c.each.invariant in_list in-answers c.index-calls-i.is
-    (take_rest trace n) c.lend-answer.auto.trace (put_last n (length trace - n) trace c.lend-answer.new.trace refl) c.lend-answer.ensures.the-machine-makes-it c.lend-answer.ensures.leaves-spare-places in
+    (take_rest trace n) c.lend-answer.auto.trace (put_last n (length trace - n) trace c.lend-answer.new.trace refl) c.lend-answer.ensures.the_machine_makes_it c.lend-answer.ensures.leaves_spare_places in
     subst₂ (λ k l. Sofar M start c.args.calls.now before (c.each.i + 1) (n + k) (loan c.lend-answer.new.places c.lend-answer.new.session.now l (take n trace ++ (c.lend-answer.new.trace ++ drop (length trace - n) (drop n trace)))))
-    (sym c.events-events.ensures.is-the-count-of-a-run) (sym c.store.ensures.writes-the-record) step
+    (sym c.events-events.ensures.is_the_count_of_a_run) (sym c.store.ensures.writes_the_record) step
 
 pub returns : goal.returns
 returns g c = record {

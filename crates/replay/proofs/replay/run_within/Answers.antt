@@ -10,7 +10,7 @@ returns g c =
     let trace = c.args.trace.now in
     let n = c.min-records.result in
     record {
-      runs-in-the-room =
+      runs_in_the_room =
           run_in M c.args.horizon c.args.budget c.args.room n (memory c.args.places.now c.args.session.now.now) (memory c.run.new.places c.run.new.self.now)
-          trace c.run.new.trace _ _ c.run.result c.min-records.ensures (ap (λ k. take k trace) (sub-zero n)) c.run.auto.trace (ap (λ k. c.run.new.trace ++ drop k trace) (sub-zero n)) c.run.ensures.repeats-step;
+          trace c.run.new.trace _ _ c.run.result c.min-records.ensures (ap (λ k. take k trace) (sub-zero n)) c.run.auto.trace (ap (λ k. c.run.new.trace ++ drop k trace) (sub-zero n)) c.run.ensures.repeats_step;
     }

@@ -5,14 +5,14 @@ use Rattle.script.proofs.moment.ticks.Goals as goal
 
 pub returns-in-Some : goal.returns-in-Some
 returns-in-Some c =
-    let read = c.in-Some.ensures.reads-or-refuses in
+    let read = c.in-Some.ensures.reads_or_refuses in
     record {
-      reads-or-refuses =
+      reads_or_refuses =
           cases_map c.new.result
           (λ big m e.
           let held = m.held in
           let same : m.count ≡ c.in-Some.count = decimal_injective m.count c.in-Some.count (omega arith) (omega arith) (e ∙ sym read.1) in
           omega arith)
           (λ t is. ap decimal is ∙ read.1)
-          c.new.ensures.holds-it-or-refuses;
+          c.new.ensures.holds_it_or_refuses;
     }

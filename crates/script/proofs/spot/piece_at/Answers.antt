@@ -3,7 +3,7 @@ use Rattle.script.proofs.Passing.{pass, none_left}
 use Rattle.script.proofs.spot.piece_at.Goals as goal
 
 pub returns-in-default : goal.returns-in-default
-returns-in-default c = record { finds-or-refuses = none_left _ _ _ _ _ _ _ c.in-default.is c.pieces-test.true c.pieces.invariant }
+returns-in-default c = record { finds_or_refuses = none_left _ _ _ _ _ _ _ c.in-default.is c.pieces-test.true c.pieces.invariant }
 
 pub pieces-preserved : goal.pieces-preserved
-pieces-preserved c = pass _ _ _ _ _ _ _ _ _ c.in-Some.is c.pieces.invariant c.first-piece-cut-in-pieces.ensures.takes-the-first-piece
+pieces-preserved c = pass _ _ _ _ _ _ _ _ _ c.in-Some.is c.pieces.invariant c.first_piece-cut-in-pieces.ensures.takes_the_first_piece

@@ -10,7 +10,7 @@ parts-preserved g c =
     let within : c.parts.part < length c.args.places.now = omega arith in
     elim c.if-pins-ne0.branch [
       | then-pins-ne0 w ↦
-          w.places-is ∙ delivered_more g.C.Clock.time g.P.Part.kind c.args.moment c.args.value c.parts.part (set_of c.args.row.now) c.args.places.now c.parts.places _ _ within c.parts.invariant w.index-places-part.is w.given.ensures.takes-the-input
+          w.places-is ∙ delivered_more g.C.Clock.time g.P.Part.kind c.args.moment c.args.value c.parts.part (set_of c.args.row.now) c.args.places.now c.parts.places _ _ within c.parts.invariant w.index-places-part.is w.given.ensures.takes_the_input
       | else-pins-ne0 w ↦
           w.places-is ∙ delivered_skips g.C.Clock.time g.P.Part.kind c.args.moment c.args.value c.parts.part (set_of c.args.row.now) c.args.places.now c.parts.places within c.parts.invariant (eq-eqb _ 0 w.if-pins-ne0.false)
     ]

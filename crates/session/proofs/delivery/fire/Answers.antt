@@ -8,11 +8,11 @@ returns g c =
     let M = model g.C.Clock.time g.P.Part.kind (g.K.Coupling.wiring c.args.coupling.now) in
     let within : c.args.due.part < length c.args.places.now = omega arith in
     let read = c.index-places-due.is in
-    let out = c.output-output.ensures.is-the-output in
-    let reaches = c.reach-row.ensures.is-the-union-of-the-rows in
+    let out = c.output-output.ensures.is_the_output in
+    let reaches = c.reach-row.ensures.is_the_union_of_the_rows in
     record {
-      tells-the-event = fire_event M c.args.places.now c.args.due.moment c.args.due.part c.index-places-due.result c.output-output.result c.reach-row.result within read out reaches _ refl;
-      leaves-it-fired =
+      tells_the_event = fire_event M c.args.places.now c.args.due.moment c.args.due.part c.index-places-due.result c.output-output.result c.reach-row.result within read out reaches _ refl;
+      leaves_it_fired =
           fire_places M c.args.places.now c.args.due.moment c.args.due.part c.index-places-due.result c.output-output.result c.reach-row.result within read out reaches
-          c.fired.result c.parts.result _ c.fired.ensures.takes-internal c.parts.ensures.is-the-count c.deliver.ensures.gives-each-its-set;
+          c.fired.result c.parts.result _ c.fired.ensures.takes_internal c.parts.ensures.is_the_count c.deliver.ensures.gives_each_its_set;
     }

@@ -24,34 +24,34 @@ ins_of b = b.ins
 at_board : (blocks : List Block) (b : Block) → b ≡ get_or blocks 0 b → 0 < length blocks → b ≡ block_at blocks 0
 at_board blocks b e h = e ∙ get_or_default blocks 0 b no_block h
 
-pub returns-in-err-rows : goal.returns-in-err-rows
-returns-in-err-rows g c =
-    let p = err_from_is_err_and c.from-residual.result c.from-residual.ensures.1 in
+pub returns-in_err-rows : goal.returns-in_err-rows
+returns-in_err-rows g c =
+    let p = err_from_is_err_and c.from_residual.result c.from_residual.ensures.1 in
     record {
-      rows-are-the-paths = rw p.1 tt;
-      is-the-only-one = rw p.1 tt;
-      no-path-leads-back = never_itself _ _ _ (plan_sound c.args.self.now.plan);
+      rows_are_the_paths = rw p.1 tt;
+      is_the_only_one = rw p.1 tt;
+      no_path_leads_back = never_itself _ _ _ (plan_sound c.args.self.now.plan);
     }
 
 pub turns-init : goal.turns-init
 turns-init g c =
-    let made = c.in-ok-rows.ensures.reach-nothing in
-    none_yet c.args.self.now.plan c.as-slice-wires.result.now c.len-parts.result c.len-blocks.result c.as-slice-wires.ensures.value c.len-parts.ensures c.len-blocks.ensures _
+    let made = c.in_ok-rows.ensures.reach_nothing in
+    none_yet c.args.self.now.plan c.as_slice-wires.result.now c.len-parts.result c.len-blocks.result c.as_slice-wires.ensures.value c.len-parts.ensures c.len-blocks.ensures _
     (ap length made ∙ length-replicate _ _) (λ r. ap (λ l. get_or l r nothing) made ∙ blank_row _ r)
 
 pub turns-preserved : goal.turns-preserved
 turns-preserved g c =
     let same : length c.sweep.new.rows ≡ c.turns.rows.len = omega (arith, c.sweep.ensures.after.long, c.turns.invariant.long, c.turns.rows.ok.0) in
-    subst (Swept c.as-slice-wires.result.now c.len-parts.result c.len-blocks.result (c.turns.turn + 1) 0) (sym (take_at c.sweep.new.rows _ _ same))
-    (next_turn c.args.self.now.plan c.as-slice-wires.result.now c.len-parts.result c.len-blocks.result c.as-slice-wires.ensures.value c.len-parts.ensures c.len-blocks.ensures c.turns.turn _ c.sweep.ensures.after)
+    subst (Swept c.as_slice-wires.result.now c.len-parts.result c.len-blocks.result (c.turns.turn + 1) 0) (sym (take_at c.sweep.new.rows _ _ same))
+    (next_turn c.args.self.now.plan c.as_slice-wires.result.now c.len-parts.result c.len-blocks.result c.as_slice-wires.ensures.value c.len-parts.ensures c.len-blocks.ensures c.turns.turn _ c.sweep.ensures.after)
 
-pub invariant-of-result : goal.invariant-of-result
-invariant-of-result g c =
+pub invariant_of-result : goal.invariant_of-result
+invariant_of-result g c =
     let plan = c.args.self.now.plan in
-    let W = c.as-slice-wires.result.now in
+    let W = c.as_slice-wires.result.now in
     let n = c.len-parts.result in
     let m = c.len-blocks.result in
-    let ew = c.as-slice-wires.ensures.value in
+    let ew = c.as_slice-wires.ensures.value in
     let en = c.len-parts.ensures in
     let em = c.len-blocks.ensures in
     let some : 0 < m = omega (arith, c.args.self.now.has_the_board, em) in
@@ -79,7 +79,7 @@ returns g c =
     let m = vec_len plan.blocks in
     let some : 0 < m = c.args.self.now.has_the_board in
     let last : c.turns.turn ≡ c.len-blocks.result + c.len-blocks.result + 1 = omega (arith, c.turns-test.false, c.turns.auto.turn-end) in
-    let swept = swept_moved c.as-slice-wires.result.now W c.len-parts.result n c.len-blocks.result m c.turns.turn (vec_items c.turns.rows) c.as-slice-wires.ensures.value c.len-parts.ensures c.len-blocks.ensures last c.turns.invariant in
+    let swept = swept_moved c.as_slice-wires.result.now W c.len-parts.result n c.len-blocks.result m c.turns.turn (vec_items c.turns.rows) c.as_slice-wires.ensures.value c.len-parts.ensures c.len-blocks.ensures last c.turns.invariant in
     let cut = c.truncate.ensures.items ∙ ap (λ k. take (8 * (k + 1)) (vec_items c.turns.rows)) c.len-parts.ensures in
     let flat : Flattened W n (block_at (vec_items plan.blocks) 0).ins (of_rows c.len-parts.result c.index.result.now.ins (vec_items c.truncate.new.self)) = record {
       part_count = c.len-parts.ensures;
@@ -88,7 +88,7 @@ returns g c =
       to_board = flat_board plan W n m refl refl refl some _ _ swept cut;
     } in
     record {
-      rows-are-the-paths = flat;
-      is-the-only-one = λ v h. agrees W n _ (of_rows c.len-parts.result c.index.result.now.ins (vec_items c.truncate.new.self)) v flat h;
-      no-path-leads-back = never_itself _ _ _ (plan_sound plan);
+      rows_are_the_paths = flat;
+      is_the_only_one = λ v h. agrees W n _ (of_rows c.len-parts.result c.index.result.now.ins (vec_items c.truncate.new.self)) v flat h;
+      no_path_leads_back = never_itself _ _ _ (plan_sound plan);
     }

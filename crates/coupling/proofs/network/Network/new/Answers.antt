@@ -4,20 +4,20 @@ use Rattle.std.proofs.lemmas.Result.{err_from_is_err_and}
 use Rattle.coupling.proofs.Wiring.{blank_set, blank_board}
 use Rattle.coupling.proofs.network.Network.new.Goals as goal
 
-pub returns-in-err-rows : goal.returns-in-err-rows
-returns-in-err-rows c = let p = err_from_is_err_and c.from-residual.result c.from-residual.ensures.1 in record { has-no-wires-or-refuses = rw (p.1, p.2) (omega arith, omega arith) }
+pub returns-in_err-rows : goal.returns-in_err-rows
+returns-in_err-rows c = let p = err_from_is_err_and c.from_residual.result c.from_residual.ensures.1 in record { has_no_wires_or_refuses = rw (p.1, p.2) (omega arith, omega arith) }
 
-pub invariant-of-result : goal.invariant-of-result
-invariant-of-result c =
-    let made = c.in-ok-rows.ensures.reach-nothing in
+pub invariant_of-result : goal.invariant_of-result
+invariant_of-result c =
+    let made = c.in_ok-rows.ensures.reach_nothing in
     let some = blank_set _ _ made in
-    (omega arith, (omega arith, (c.in-ok-rows.rows.ok.0 ∙ ap length made ∙ length-replicate _ _, ((λ i k h. some _ i), ((λ r j h. some r j), tt)))))
+    (omega arith, (omega arith, (c.in_ok-rows.rows.ok.0 ∙ ap length made ∙ length-replicate _ _, ((λ i k h. some _ i), ((λ r j h. some r j), tt)))))
 
 pub returns : goal.returns
 returns c =
-    let made = c.in-ok-rows.ensures.reach-nothing in
+    let made = c.in_ok-rows.ensures.reach_nothing in
     record {
-      has-no-wires-or-refuses = record {
+      has_no_wires_or_refuses = record {
         part_count = refl;
         input_count = refl;
         rows = λ s k i. blank_set _ _ made _ i;

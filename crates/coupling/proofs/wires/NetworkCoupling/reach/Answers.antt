@@ -6,7 +6,7 @@ use Rattle.coupling.proofs.wires.NetworkCoupling.reach.Goals as goal
 
 pub returns-in-Part-2 : goal.returns-in-Part-2
 returns-in-Part-2 c = record {
-  is-the-union-of-the-rows =
+  is_the_union_of_the_rows =
       subst (λ s. Reaches (wired c.args.self.now) s c.args.pins c.empty.result) (sym c.in-Part.is)
-      (absent_reaches c.args.self.now c.in-Part.part _ _ c.if-part-self.false c.empty.ensures.reaches-nothing);
+      (absent_reaches c.args.self.now c.in-Part.part _ _ c.if-part-self.false c.empty.ensures.reaches_nothing);
 }

@@ -5,41 +5,41 @@ use Rattle.drawing.specs.Lists.{lists}
 use Rattle.drawing.proofs.Added.{component_lens, short_kept}
 use Rattle.drawing.proofs.drawing.Drawing.add_part.Goals as goal
 
-pub returns-in-err-reserve : goal.returns-in-err-reserve
-returns-in-err-reserve g c =
+pub returns-in_err-reserve : goal.returns-in_err-reserve
+returns-in_err-reserve g c =
     let d = c.args.self.now in
-    let p = err_from_is_err_and c.from-residual-in-err-reserve.result c.from-residual-in-err-reserve.ensures.1 in
+    let p = err_from_is_err_and c.from_residual-in_err-reserve.result c.from_residual-in_err-reserve.ensures.1 in
     record {
-      adds-the-part-or-refuses =
+      adds_the_part_or_refuses =
           inr (
             c.in-Some.block,
-            Ok c.in-ok-component.component,
+            Ok c.in_ok-component.component,
             c.in-Some.is,
-            c.in-ok-component.ensures.asks-in-order,
+            c.in_ok-component.ensures.asks_in_order,
             inl (p.1 ∙ ap Err p.2, (λ i. record { plan = lists d.plan; starts = c.reserve.ensures.items i; current = d.current })),
           );
-      refusal-changes-nothing = short_kept (sheet d) _ _ _ p.1 (λ i. record { plan = lists d.plan; starts = c.reserve.ensures.items i; current = d.current });
+      refusal_changes_nothing = short_kept (sheet d) _ _ _ p.1 (λ i. record { plan = lists d.plan; starts = c.reserve.ensures.items i; current = d.current });
     }
 
-pub returns-in-err-put-component : goal.returns-in-err-put-component
-returns-in-err-put-component g c =
+pub returns-in_err-put_component : goal.returns-in_err-put_component
+returns-in_err-put_component g c =
     let d = c.args.self.now in
-    let p = err_from_is_err_and c.from-residual-in-err-put-component.result c.from-residual-in-err-put-component.ensures.1 in
-    let short = c.in-err-put-component.ensures.puts-it-or-refuses in
+    let p = err_from_is_err_and c.from_residual-in_err-put_component.result c.from_residual-in_err-put_component.ensures.1 in
+    let short = c.in_err-put_component.ensures.puts_it_or_refuses in
     record {
-      adds-the-part-or-refuses =
+      adds_the_part_or_refuses =
           inr (
             c.in-Some.block,
-            Ok c.in-ok-component.component,
+            Ok c.in_ok-component.component,
             c.in-Some.is,
-            c.in-ok-component.ensures.asks-in-order,
+            c.in_ok-component.ensures.asks_in_order,
             inl (p.1 ∙ ap Err (p.2 ∙ short.0), (λ i. record { plan = short.1 i; starts = c.reserve.ensures.items i; current = d.current })),
           );
-      refusal-changes-nothing = short_kept (sheet d) _ _ _ p.1 (λ i. record { plan = short.1 i; starts = c.reserve.ensures.items i; current = d.current });
+      refusal_changes_nothing = short_kept (sheet d) _ _ _ p.1 (λ i. record { plan = short.1 i; starts = c.reserve.ensures.items i; current = d.current });
     }
 
-pub invariant-of-self-2 : goal.invariant-of-self-2
-invariant-of-self-2 g c =
+pub invariant_of-self-2 : goal.invariant_of-self-2
+invariant_of-self-2 g c =
     let d = c.args.self.now in
-    let lens = component_lens d.plan c.put-component.new.plan c.in-ok-component.component c.in-ok-put-component.ensures.puts-it-or-refuses in
-    (omega (arith, lens.1, c.push-reserved.ensures.len, c.reserve.ensures.len, d.a_start_for_each), ((λ b e. omega (arith, lens.0, d.open_is_there b e)), tt))
+    let lens = component_lens d.plan c.put_component.new.plan c.in_ok-component.component c.in_ok-put_component.ensures.puts_it_or_refuses in
+    (omega (arith, lens.1, c.push_reserved.ensures.len, c.reserve.ensures.len, d.a_start_for_each), ((λ b e. omega (arith, lens.0, d.open_is_there b e)), tt))

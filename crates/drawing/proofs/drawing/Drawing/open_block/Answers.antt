@@ -5,25 +5,25 @@ use Rattle.drawing.specs.Lists.{lists}
 use Rattle.drawing.proofs.Added.{block_lens, short_kept}
 use Rattle.drawing.proofs.drawing.Drawing.open_block.Goals as goal
 
-pub returns-in-err-put-block : goal.returns-in-err-put-block
-returns-in-err-put-block g c =
+pub returns-in_err-put_block : goal.returns-in_err-put_block
+returns-in_err-put_block g c =
     let d = c.args.self.now in
-    let p = err_from_is_err_and c.from-residual-in-err-put-block.result c.from-residual-in-err-put-block.ensures.1 in
-    let short = c.in-err-put-block.ensures.puts-it-or-refuses in
+    let p = err_from_is_err_and c.from_residual-in_err-put_block.result c.from_residual-in_err-put_block.ensures.1 in
+    let short = c.in_err-put_block.ensures.puts_it_or_refuses in
     record {
-      adds-the-block-or-refuses =
+      adds_the_block_or_refuses =
           inr (
             c.in-Some.site,
-            Ok c.in-ok-block.block,
+            Ok c.in_ok-block.block,
             sym c.in-Some.ensures.value,
-            c.in-ok-block.ensures.asks-in-order,
+            c.in_ok-block.ensures.asks_in_order,
             inl (p.1 ∙ ap Err (p.2 ∙ short.0), (λ i. record { plan = short.1 i; starts = vec_items d.starts; current = d.current })),
           );
-      refusal-changes-nothing = short_kept (sheet d) _ _ _ p.1 (λ i. record { plan = short.1 i; starts = vec_items d.starts; current = d.current });
+      refusal_changes_nothing = short_kept (sheet d) _ _ _ p.1 (λ i. record { plan = short.1 i; starts = vec_items d.starts; current = d.current });
     }
 
-pub invariant-of-self-2 : goal.invariant-of-self-2
-invariant-of-self-2 g c =
+pub invariant_of-self-2 : goal.invariant_of-self-2
+invariant_of-self-2 g c =
     let d = c.args.self.now in
-    let lens = block_lens d.plan c.put-block.new.plan c.in-ok-block.block c.in-ok-put-block.ensures.puts-it-or-refuses in
+    let lens = block_lens d.plan c.put_block.new.plan c.in_ok-block.block c.in_ok-put_block.ensures.puts_it_or_refuses in
     (d.a_start_for_each ∙ sym lens.1, ((λ b e. let same : c.len-number.result ≡ b = cc in omega (arith, same, lens.0, c.len-number.ensures)), tt))

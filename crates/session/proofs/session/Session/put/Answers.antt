@@ -12,17 +12,17 @@ returns g c =
     let M = model g.C.Clock.time g.P.Part.kind (g.K.Coupling.wiring c.args.coupling.now) in
     let places = c.args.places.now in
     let before = memory places c.args.self.now.now in
-    let few : Few M.wiring places → ⊥ = λ f. omega (arith, f, c.parts-parts.ensures.is-the-count) in
-    let e : c.deliver.new.places ≡ deliver M c.args.moment Board c.args.pins c.args.value places = c.deliver.ensures.gives-each-its-set ∙ deliver_row M c.args.moment c.args.value Board c.args.pins c.reach-row.result c.parts-parts.result places c.parts-parts.ensures.is-the-count c.reach-row.ensures.is-the-union-of-the-rows in
+    let few : Few M.wiring places → ⊥ = λ f. omega (arith, f, c.parts-parts.ensures.is_the_count) in
+    let e : c.deliver.new.places ≡ deliver M c.args.moment Board c.args.pins c.args.value places = c.deliver.ensures.gives_each_its_set ∙ deliver_row M c.args.moment c.args.value Board c.args.pins c.reach-row.result c.parts-parts.result places c.parts-parts.ensures.is_the_count c.reach-row.ensures.is_the_union_of_the_rows in
     let h : Puts M c.args.moment c.args.pins c.args.value before (memory c.deliver.new.places c.args.moment) (Ok tt) =
-    put_done M c.args.moment c.args.pins c.args.value before _ few (sym c.if-not-within-ceiling.ensures.is-the-ceiling-test)
-    (subst (λ k. (c.args.pins ≡ 0) ⊎ (2 ^ k ≤ c.args.pins) → ⊥) c.inputs.ensures.is-the-count c.if-not-good-pins.ensures.value)
-    (sym c.if-not-not-after.ensures.is-the-order)
-    (subst (λ n. DueBefore M.time (map (due M.time M.kind) (take n places)) c.args.moment → ⊥) c.parts-parts.ensures.is-the-count c.if-due-before.ensures.value)
+    put_done M c.args.moment c.args.pins c.args.value before _ few (sym c.if-not-within_ceiling.ensures.is_the_ceiling_test)
+    (subst (λ k. (c.args.pins ≡ 0) ⊎ (2 ^ k ≤ c.args.pins) → ⊥) c.inputs.ensures.is_the_count c.if-not-good_pins.ensures.value)
+    (sym c.if-not-not_after.ensures.is_the_order)
+    (subst (λ n. DueBefore M.time (map (due M.time M.kind) (take n places)) c.args.moment → ⊥) c.parts-parts.ensures.is_the_count c.if-due_before.ensures.value)
     (ap (λ l. memory l c.args.moment) e) in
     record {
-      delivers-the-input = h;
-      refusal-leaves-memory = tt;
-      changes-exactly-what-is-reached = deliver_reaches M c.args.moment Board c.args.pins c.args.value places _ (omega arith) e;
-      has-one-outcome = puts_only M c.args.moment c.args.pins c.args.value before _ _ h;
+      delivers_the_input = h;
+      refusal_leaves_memory = tt;
+      changes_exactly_what_is_reached = deliver_reaches M c.args.moment Board c.args.pins c.args.value places _ (omega arith) e;
+      has_one_outcome = puts_only M c.args.moment c.args.pins c.args.value before _ _ h;
     }

@@ -10,31 +10,31 @@ returns-in-default g c =
     let M = model g.C.Clock.time g.P.Part.kind (g.K.Coupling.wiring c.args.coupling.now) in
     let places = c.args.places.now in
     let before = memory places c.args.self.now.now in
-    let few : Few M.wiring places → ⊥ = λ f. omega (arith, f, c.parts-parts.ensures.is-the-count) in
+    let few : Few M.wiring places → ⊥ = λ f. omega (arith, f, c.parts-parts.ensures.is_the_count) in
     let none : NoneDue (dues M places) =
-    subst (λ n. NoneDue (map (due M.time M.kind) (take n places))) c.parts-parts.ensures.is-the-count c.in-default.ensures.is-imminent in
+    subst (λ n. NoneDue (map (due M.time M.kind) (take n places))) c.parts-parts.ensures.is_the_count c.in-default.ensures.is_imminent in
     let h = step_idle M before few none in
-    record { fires-the-imminent-part = h; refusal-leaves-memory = refl; changes-only-what-fires-or-is-reached = refl; has-one-outcome = steps_only M g.met.C.Clock.lawful before _ _ h }
+    record { fires_the_imminent_part = h; refusal_leaves_memory = refl; changes_only_what_fires_or_is_reached = refl; has_one_outcome = steps_only M g.met.C.Clock.lawful before _ _ h }
 
-pub returns-then-not-within-ceiling : goal.returns-then-not-within-ceiling
-returns-then-not-within-ceiling g c =
+pub returns-then-not-within_ceiling : goal.returns-then-not-within_ceiling
+returns-then-not-within_ceiling g c =
     let M = model g.C.Clock.time g.P.Part.kind (g.K.Coupling.wiring c.args.coupling.now) in
     let places = c.args.places.now in
     let before = memory places c.args.self.now.now in
-    let few : Few M.wiring places → ⊥ = λ f. omega (arith, f, c.parts-parts.ensures.is-the-count) in
+    let few : Few M.wiring places → ⊥ = λ f. omega (arith, f, c.parts-parts.ensures.is_the_count) in
     let found : Imminent M.time (dues M places) c.in-Some.due.moment c.in-Some.due.part =
-    subst (λ n. Imminent M.time (map (due M.time M.kind) (take n places)) c.in-Some.due.moment c.in-Some.due.part) c.parts-parts.ensures.is-the-count c.in-Some.ensures.is-imminent in
-    let h = step_late M before _ _ few found (sym c.if-not-within-ceiling.ensures.is-the-ceiling-test) in
-    record { fires-the-imminent-part = h; refusal-leaves-memory = refl; changes-only-what-fires-or-is-reached = refl; has-one-outcome = steps_only M g.met.C.Clock.lawful before _ _ h }
+    subst (λ n. Imminent M.time (map (due M.time M.kind) (take n places)) c.in-Some.due.moment c.in-Some.due.part) c.parts-parts.ensures.is_the_count c.in-Some.ensures.is_imminent in
+    let h = step_late M before _ _ few found (sym c.if-not-within_ceiling.ensures.is_the_ceiling_test) in
+    record { fires_the_imminent_part = h; refusal_leaves_memory = refl; changes_only_what_fires_or_is_reached = refl; has_one_outcome = steps_only M g.met.C.Clock.lawful before _ _ h }
 
 pub returns : goal.returns
 returns g c =
     let M = model g.C.Clock.time g.P.Part.kind (g.K.Coupling.wiring c.args.coupling.now) in
     let places = c.args.places.now in
     let before = memory places c.args.self.now.now in
-    let few : Few M.wiring places → ⊥ = λ f. omega (arith, f, c.parts-parts.ensures.is-the-count) in
+    let few : Few M.wiring places → ⊥ = λ f. omega (arith, f, c.parts-parts.ensures.is_the_count) in
     let found : Imminent M.time (dues M places) c.in-Some.due.moment c.in-Some.due.part =
-    subst (λ n. Imminent M.time (map (due M.time M.kind) (take n places)) c.in-Some.due.moment c.in-Some.due.part) c.parts-parts.ensures.is-the-count c.in-Some.ensures.is-imminent in
-    let e = c.fire_event.ensures.leaves-it-fired in
-    let h = step_done M before (memory c.fire_event.new.places c.in-Some.due.moment) _ _ _ few found (sym c.if-not-within-ceiling.ensures.is-the-ceiling-test) (c.tell.ensures.silent-without-pins ∙ ap told c.fire_event.ensures.tells-the-event) (ap (λ l. memory l c.in-Some.due.moment) e) in
-    record { fires-the-imminent-part = h; refusal-leaves-memory = tt; changes-only-what-fires-or-is-reached = fired_alone M places _ _ _ (omega arith) found e; has-one-outcome = steps_only M g.met.C.Clock.lawful before _ _ h }
+    subst (λ n. Imminent M.time (map (due M.time M.kind) (take n places)) c.in-Some.due.moment c.in-Some.due.part) c.parts-parts.ensures.is_the_count c.in-Some.ensures.is_imminent in
+    let e = c.fire_event.ensures.leaves_it_fired in
+    let h = step_done M before (memory c.fire_event.new.places c.in-Some.due.moment) _ _ _ few found (sym c.if-not-within_ceiling.ensures.is_the_ceiling_test) (c.tell.ensures.silent_without_pins ∙ ap told c.fire_event.ensures.tells_the_event) (ap (λ l. memory l c.in-Some.due.moment) e) in
+    record { fires_the_imminent_part = h; refusal_leaves_memory = tt; changes_only_what_fires_or_is_reached = fired_alone M places _ _ _ (omega arith) found e; has_one_outcome = steps_only M g.met.C.Clock.lawful before _ _ h }

@@ -11,7 +11,13 @@ pub invariant_of-result : goal.invariant_of-result
 invariant_of-result c =
     let made = c.in_ok-rows.ensures.reach_nothing in
     let some = blank_set _ _ made in
-    (omega arith, (omega arith, (c.in_ok-rows.rows.ok.0 ∙ ap length made ∙ length-replicate _ _, ((λ i k h. some _ i), ((λ r j h. some r j), tt)))))
+    record {
+      few_parts = omega arith;
+      few_inputs = omega arith;
+      a_row_for_each_pin = c.in_ok-rows.rows.ok.0 ∙ ap length made ∙ length-replicate _ _;
+      none_to_itself = λ i k h. some _ i;
+      none_to_absent = λ r j h. some r j;
+    }
 
 pub returns : goal.returns
 returns c =

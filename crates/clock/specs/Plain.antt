@@ -1,5 +1,5 @@
 -- The plain clock: whole numbers of ticks.
-use Rattle.std.specs.Prelude.{ℕ, ◌+◌, ◌-◌, ◌≤◌, min, nat_le}
+use Rattle.std.specs.Prelude.{ℕ, ◌+◌, ◌-◌, min, nat_le}
 use Rattle.std.proofs.Common.{arith}
 use Rattle.clock.specs.Time.{Time}
 use Rattle.clock.specs.declared.ticks.Ticks.{Ticks}

@@ -1,5 +1,5 @@
 -- A value of a clock is its numbers: the proof that it is held adds nothing.
-use Rattle.std.specs.Prelude.{◌≡◌, ℕ, ◌≤◌}
+use Rattle.std.specs.Prelude.{◌≡◌, ◌≤◌}
 use mathlib.Core.HLevel.{is_prop→PathP}
 use Rattle.std.proofs.Math.Bridge.{le_prop}
 use Rattle.clock.specs.declared.ticks.Ticks.{Ticks}

@@ -1,5 +1,5 @@
 -- The superdense clock: pairs tick:micro, ordered by tick and then by micro.
-use Rattle.std.specs.Prelude.{ℕ, ◌+◌, ◌-◌, ◌≤◌, min, Bool, cond, ◌&&◌, ◌||◌, ◌==◌, nat_le, nat_lt}
+use Rattle.std.specs.Prelude.{ℕ, ◌+◌, ◌-◌, min, Bool, cond, ◌&&◌, ◌||◌, ◌==◌, nat_le, nat_lt}
 use Rattle.std.proofs.Common.{arith}
 use Rattle.clock.specs.Time.{Time}
 use Rattle.clock.specs.declared.dense.Dense.{Dense}

@@ -1,10 +1,10 @@
 -- The superdense clock keeps the clock laws.
-use Rattle.std.specs.Prelude.{◌≡◌, ℕ, ◌+◌, ◌<◌, ◌≤◌, true, leb, ◌⊎◌, refl}
+use Rattle.std.specs.Prelude.{ℕ, refl}
 use Rattle.std.proofs.Common.{ap, inl, inr, ⊎_elim, arith}
 use Rattle.std.proofs.lemmas.Bool.Decides.{nat_tests}
 use Rattle.std.proofs.lemmas.Bool.{cases_Bool}
 use Rattle.clock.specs.Time.{Laws}
-use Rattle.clock.specs.Superdense.{superdense, sum_fits}
+use Rattle.clock.specs.Superdense.{superdense}
 use Rattle.clock.specs.declared.dense.Dense.{Dense}
 use Rattle.clock.specs.Same.{same_dense}
 

@@ -1,5 +1,5 @@
 -- What a clock means, and the laws that it keeps.
-use Rattle.std.specs.Prelude.{◌≡◌, ℕ, ◌≤◌, Bool, true, false, ◌⊎◌}
+use Rattle.std.specs.Prelude.{◌≡◌, ℕ, ◌≤◌, Bool, true, ◌⊎◌}
 
 -- A clock's values are moments, counted from opening, and spans.
 pub record Time (C : Type 0) : Type 0 where

@@ -1,12 +1,11 @@
 -- Reading and wiring a network.
-use Rattle.std.proofs.Common.{◌≡◌, ℕ, ◌+◌, ◌*◌, ◌<◌, ◌≤◌, List, length, get_or, replicate, vec_items, vec_len, sym, refl, ap, ◌∙◌, subst, ⊎_elim, arith}
+use Rattle.std.proofs.Common.{◌≡◌, ℕ, ◌+◌, ◌*◌, ◌≤◌, List, get_or, replicate, vec_items, sym, ap, ◌∙◌, ⊎_elim, arith}
 use Rattle.std.proofs.lemmas.List.{get_or_past, get_or-replicate, length-replicate}
 use Rattle.std.proofs.lemmas.Bool.{cases_lt}
 use Rattle.coupling.specs.Rows.{row_at, set_of, nothing}
 use Rattle.coupling.specs.Wiring.{Reaches}
-use Rattle.coupling.specs.Networks.{wired, first_row, Bare}
-use Rattle.coupling.specs.declared.coupling.Source.{Source}
-use Rattle.coupling.specs.declared.coupling.Source.TheVariants.{Board, Part}
+use Rattle.coupling.specs.Networks.{wired}
+use Rattle.coupling.specs.declared.coupling.Source.TheVariants.{Part}
 use Rattle.coupling.specs.declared.network.Network.{Network}
 use Rattle.coupling.specs.declared.rows.Row.{Row}
 use Rattle.coupling.proofs.Unions.{union_none}

@@ -1,5 +1,5 @@
 -- What a network value says, and what it is to make and to wire one.
-use Rattle.std.specs.Prelude.{◌≡◌, ℕ, ◌+◌, ◌*◌, ◌^◌, ◌<◌, ◌≤◌, Bool, true, false, not, ◌&&◌, set, vec_items, ◌==◌, ◌≢◌, bit_or, nat_lt, slice_index, slice_set}
+use Rattle.std.specs.Prelude.{◌≡◌, ℕ, ◌+◌, ◌*◌, ◌^◌, ◌<◌, ◌≤◌, Bool, true, false, not, ◌&&◌, vec_items, ◌==◌, ◌≢◌, bit_or, nat_lt, slice_index, slice_set}
 use Rattle.coupling.specs.Rows.{row_at, set_of}
 use Rattle.coupling.specs.Wiring.{Wiring}
 use Rattle.coupling.specs.declared.coupling.Source.{Source}

@@ -1,5 +1,5 @@
 -- The delay line: line d, with one input pin and one output pin.
-use Rattle.std.specs.Prelude.{◌≡◌, ℕ, ◌≤◌, true, Some, None, Option}
+use Rattle.std.specs.Prelude.{ℕ, ◌≤◌, Some, None, Option}
 use Rattle.clock.specs.Time.{Time}
 use Rattle.part.specs.Kind.{Kind, Spans}
 use Rattle.part.specs.declared.part.Output.{Output}

@@ -1,5 +1,5 @@
 -- The UART: uart b, with one input pin and two output pins.
-use Rattle.std.specs.Prelude.{◌≡◌, ℕ, ◌+◌, ◌*◌, ◌≤◌, min, true, cond, Some, None, Option, nat_lt}
+use Rattle.std.specs.Prelude.{ℕ, ◌+◌, ◌*◌, ◌≤◌, min, cond, Some, None, Option, nat_lt}
 use Rattle.clock.specs.Time.{Time}
 use Rattle.part.specs.Kind.{Kind, Spans}
 use Rattle.part.specs.declared.part.Output.{Output}

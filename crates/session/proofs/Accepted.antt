@@ -58,14 +58,14 @@ module _ {P C : Type 0} (M : Model P C) where
     takes_input = λ j d l r.
         ap (λ x. get_or x j d) e ∙ delivered_at M.time M.kind m v M.wiring.parts (reached M.wiring s pins) before j d l (omega arith)
         ∙ cond-false _ _ _ (ne_eqb (reached M.wiring s pins j) 0 (λ z. omega (arith, z)));
-    others_stay = λ j d no-input. ap (λ x. get_or x j d) e ∙ others j d no-input;
+    others_stay = λ j d no_input. ap (λ x. get_or x j d) e ∙ others j d no_input;
   }
     where
       others : (j : ℕ) (d : Place P C) → (j < M.wiring.parts → 0 < reached M.wiring s pins j → ⊥) → get_or (deliver M m s pins v before) j d ≡ get_or before j d
-      others j d no-input =
+      others j d no_input =
           ⊎_elim
           (λ l. delivered_at M.time M.kind m v M.wiring.parts (reached M.wiring s pins) before j d l (omega arith)
-          ∙ cond-true _ _ _ (eq-eqb (reached M.wiring s pins j) 0 (⊎_elim (λ r. absurd (no-input l r)) (λ r. omega arith) (cases_lt 0 (reached M.wiring s pins j)))))
+          ∙ cond-true _ _ _ (eq-eqb (reached M.wiring s pins j) 0 (⊎_elim (λ r. absurd (no_input l r)) (λ r. omega arith) (cases_lt 0 (reached M.wiring s pins j)))))
           (λ l. delivered_after M.time M.kind m v M.wiring.parts (reached M.wiring s pins) before j d l)
           (cases_lt j M.wiring.parts)
 

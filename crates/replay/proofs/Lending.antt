@@ -1,9 +1,9 @@
 -- One call that is lent some of the places: what it does to the machine.
-use Rattle.std.proofs.Common.{◌≡◌, ℕ, ◌+◌, ◌-◌, ◌<◌, ◌≤◌, min, ◌⊎◌, List, [], ◌∷◌, ◌++◌, length, take, drop, Result, sym, refl, ap, ◌∙◌, subst, subst₂, inl, inr, ⊎_elim, arith}
+use Rattle.std.proofs.Common.{◌≡◌, ℕ, ◌<◌, ◌≤◌, min, List, [], ◌++◌, length, take, drop, Result, sym, refl, ap, ◌∙◌, subst, subst₂, inl, inr, ⊎_elim, arith}
 use Rattle.std.proofs.lemmas.List.{take-append-drop, take-append-le, drop-append-le, take-take, length-take}
 use Rattle.std.proofs.lemmas.Bool.{cases_lt}
 use Rattle.session.specs.Machine.{Model, Memory, memory}
-use Rattle.session.specs.Calls.{Asks, Refuses, traced}
+use Rattle.session.specs.Calls.{traced}
 use Rattle.session.specs.declared.places.Place.{Place}
 use Rattle.session.specs.declared.places.Event.{Event}
 use Rattle.session.specs.declared.answers.Refusal.{Refusal}
@@ -12,7 +12,7 @@ use Rattle.replay.specs.declared.calls.Call.TheVariants as call
 use Rattle.replay.specs.declared.calls.Lent.{Lent}
 use Rattle.replay.specs.declared.calls.Answer.{Answer}
 use Rattle.replay.specs.declared.calls.Answer.TheVariants as answer
-use Rattle.replay.specs.Replays.{own, answered, Left, left, Lends, MakesCall, Made}
+use Rattle.replay.specs.Replays.{own, Left, left, Lends, MakesCall, Made}
 use Rattle.replay.proofs.Own.{asks_map, Own, spare, puts_own, steps_own, next_own, runs_own}
 
 module _ {P C : Type 0} (M : Model P C) where
@@ -64,17 +64,17 @@ module _ {P C : Type 0} (M : Model P C) where
   makes_few free before other n k (call.Run horizon budget room) a after few few' h = lends_few _ _ before other n k after answer.Ran a few few' h
 
   module _ (lent : Lent C) (places part given whole : List (Place P C)) (t u : C) (trace after : List (Event C)) (n : ℕ) (a : Answer C)
-      (is : n ≡ min lent.places (length places)) (is-given : given ≡ take n places) (long : length part ≡ length given) (back : whole ≡ part ++ drop n places) (fits : M.wiring.parts ≤ length places)
+      (is : n ≡ min lent.places (length places)) (is_given : given ≡ take n places) (long : length part ≡ length given) (back : whole ≡ part ++ drop n places) (fits : M.wiring.parts ≤ length places)
       (made : Made M (record { call = lent.call; places = length given }) (traced (memory given t) trace) (traced (memory part u) after) a) where
     size : length given ≡ n
-    size = ap length is-given ∙ length-take n places ∙ omega (arith, is)
+    size = ap length is_given ∙ length-take n places ∙ omega (arith, is)
 
     few_made : n < M.wiring.parts → Made M lent (traced (own M places t) trace) (traced (own M whole u) after) a × (drop M.wiring.parts whole ≡ drop M.wiring.parts places)
     few_made few =
         let here : length given < M.wiring.parts = omega (arith, size) in
         let there : lent.places < M.wiring.parts = omega (arith, is) in
         let z = makes_few (length trace) (memory given t) (own M places t) (length given) lent.places lent.call a (left (memory part u) made.events) here there made.makes_it in
-        let w : whole ≡ places = back ∙ ap (λ l. l ++ drop n places) (ap (λ (x : Left P C). x.machine.places) z.0 ∙ is-given) ∙ take-append-drop n places in
+        let w : whole ≡ places = back ∙ ap (λ l. l ++ drop n places) (ap (λ (x : Left P C). x.machine.places) z.0 ∙ is_given) ∙ take-append-drop n places in
         let e : left (own M whole u) made.events ≡ left (own M places t) [] = λ i. left (own M (w i) (z.0 i).machine.now) (z.0 i).events in (
           record {
             events = made.events;
@@ -91,17 +91,17 @@ module _ {P C : Type 0} (M : Model P C) where
         let z =
         makes_own (length trace) (memory given t) (length given) lent.places lent.call a (left (memory part u) made.events)
         (λ x. absurd (omega (arith, x, size))) (λ x. absurd (omega (arith, x, is))) made.makes_it in
-        let in-part : p ≤ length part = omega (arith, size, long) in
-        let in_take : p ≤ length (take n places) = omega (arith, size, ap length is-given) in
-        let b : take p given ≡ take p places = ap (take p) is-given ∙ take-take p n places enough in
-        let e : take p part ≡ take p whole = sym (ap (take p) back ∙ take-append-le p part (drop n places) in-part) in (
+        let in_part : p ≤ length part = omega (arith, size, long) in
+        let in_take : p ≤ length (take n places) = omega (arith, size, ap length is_given) in
+        let b : take p given ≡ take p places = ap (take p) is_given ∙ take-take p n places enough in
+        let e : take p part ≡ take p whole = sym (ap (take p) back ∙ take-append-le p part (drop n places) in_part) in (
           record {
             events = made.events;
             makes_it = subst₂ (λ x y. MakesCall M (length trace) (memory x t) lent.places lent.call a (left (memory y u) made.events)) b e z.0;
             count = made.count;
             written = made.written;
           },
-          ap (drop p) back ∙ drop-append-le p part (drop n places) in-part ∙ ap (λ l. l ++ drop n places) (z.1 ∙ ap (drop p) is-given)
+          ap (drop p) back ∙ drop-append-le p part (drop n places) in_part ∙ ap (λ l. l ++ drop n places) (z.1 ∙ ap (drop p) is_given)
               ∙ sym (drop-append-le p (take n places) (drop n places) in_take) ∙ ap (drop p) (take-append-drop n places),
         )
 

@@ -7,7 +7,6 @@ use Rattle.session.specs.declared.places.Place.{Place}
 use Rattle.session.specs.declared.places.Event.{Event}
 use Rattle.replay.specs.declared.calls.Lent.{Lent}
 use Rattle.replay.specs.declared.calls.Answer.{Answer}
-use Rattle.replay.specs.declared.replay.Replayed.{Replayed}
 use Rattle.replay.specs.Replays.{own, tells, left, Made, Makes, Replays, ends, makes, Loan, Replay}
 
 module _ {P C : Type 0} (M : Model P C) where

@@ -1,10 +1,9 @@
 -- One call: from a session's relation to the machine's.
-use Rattle.std.proofs.Common.{◌≡◌, ℕ, zero, suc, ◌+◌, ◌-◌, ◌<◌, ◌≤◌, min, false, ◌⊎◌, List, [], ◌∷◌, ◌++◌, length, take, drop, Ok, Err, Option, Result, sym, refl, ap, ◌∙◌, subst, subst₂, inl, inr, ⊎_elim, arith}
+use Rattle.std.proofs.Common.{◌≡◌, ℕ, ◌<◌, ◌≤◌, min, List, [], ◌++◌, length, take, drop, Ok, Err, Option, Result, sym, refl, ap, ◌∙◌, subst, inl, inr, arith}
 use Rattle.std.proofs.lemmas.List.{take-append-drop, append_assoc, drop-append-le, length-take, length-drop, length-append}
-use Rattle.session.specs.Machine.{Model, Memory, memory}
+use Rattle.session.specs.Machine.{Model, Memory}
 use Rattle.session.specs.Calls as calls
 use Rattle.session.specs.Calls.{Asks, Few, Refuses, Puts, Steps, Runs, Run, RunsTo, Traced, traced}
-use Rattle.session.specs.declared.places.Place.{Place}
 use Rattle.session.specs.declared.places.Event.{Event}
 use Rattle.session.specs.declared.answers.Refusal.{Refusal}
 use Rattle.session.specs.declared.answers.Firing.{Firing}
@@ -14,7 +13,7 @@ use Rattle.replay.specs.declared.calls.Call.TheVariants as call
 use Rattle.replay.specs.declared.calls.Lent.{Lent}
 use Rattle.replay.specs.declared.calls.Answer.{Answer}
 use Rattle.replay.specs.declared.calls.Answer.TheVariants as answer
-use Rattle.replay.specs.Replays.{answered, tells, Left, left, Lends, MakesCall, Made, RunIn, RunsIn}
+use Rattle.replay.specs.Replays.{answered, tells, left, MakesCall, Made, RunIn, RunsIn}
 use Rattle.replay.proofs.Own.{asks_map}
 
 -- only a run tells events

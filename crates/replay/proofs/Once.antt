@@ -1,10 +1,9 @@
 -- The machine has one outcome.
-use Rattle.std.proofs.Common.{◌≡◌, ℕ, ◌-◌, ◌<◌, ◌⊎◌, List, [], ◌∷◌, ◌++◌, length, Ok, Err, Result, sym, refl, ap, ◌∙◌, subst, subst₂, inl, inr}
-use Rattle.clock.specs.Time.{Time, Laws}
+use Rattle.std.proofs.Common.{◌≡◌, ℕ, ◌-◌, List, ◌∷◌, ◌++◌, length, Ok, Result, sym, refl, ap, ◌∙◌, subst}
+use Rattle.clock.specs.Time.{Laws}
 use Rattle.session.specs.Machine.{Model, Memory}
 use Rattle.session.specs.declared.places.Event.{Event}
 use Rattle.session.specs.declared.answers.Refusal.{Refusal}
-use Rattle.session.specs.declared.answers.Ran.{Ran}
 use Rattle.session.proofs.Outcomes.{asks_only, puts_only, steps_only, next_only}
 use Rattle.session.proofs.Verdicts.{runs_only}
 use Rattle.replay.specs.declared.calls.Call.{Call}

@@ -1,7 +1,7 @@
 -- A whole replay: opening, and then the calls.
-use Rattle.std.proofs.Common.{◌≡◌, ℕ, ◌+◌, ◌-◌, ◌<◌, ◌≤◌, min, ◌⊎◌, List, [], ◌∷◌, ◌++◌, map, length, take, drop, Ok, Err, Result, sym, refl, ap, ◌∙◌, subst, subst₂, inl, inr, arith}
+use Rattle.std.proofs.Common.{◌≡◌, ℕ, ◌-◌, ◌<◌, ◌≤◌, ◌⊎◌, List, ◌++◌, map, length, take, drop, Ok, Err, Result, sym, ap, ◌∙◌, subst, inl, inr, arith}
 use Rattle.std.proofs.lemmas.List.{take_at, drop_at, take-append-drop, length-map, length-take-le, length-append, append-nil, drop_all, length-drop}
-use Rattle.clock.specs.Time.{Time, Laws}
+use Rattle.clock.specs.Time.{Laws}
 use Rattle.session.specs.Machine.{Model, Memory, memory}
 use Rattle.session.specs.Calls.{Few, Refuses, Opens, OnlyOutcome}
 use Rattle.session.specs.declared.places.Place.{Place}

@@ -1,13 +1,13 @@
 -- A call reads and changes the places of the parts alone.
-use Rattle.std.proofs.Common.{◌≡◌, ℕ, zero, suc, ◌+◌, ◌-◌, ◌<◌, ◌≤◌, min, Bool, true, false, cond, ◌⊎◌, List, [], ◌∷◌, ◌++◌, map, length, get_or, take, drop, Some, None, Ok, Err, Option, Result, sym, refl, ap, ◌∙◌, subst, subst₂, inl, inr, ⊎_elim, le_of_suc-le-suc, not-suc-le-zero, arith}
+use Rattle.std.proofs.Common.{◌≡◌, ℕ, zero, suc, ◌-◌, ◌<◌, true, false, ◌⊎◌, List, [], ◌∷◌, map, get_or, take, drop, Some, None, Ok, Option, Result, sym, refl, ap, ◌∙◌, subst, inl, inr, le_of_suc-le-suc, not-suc-le-zero, arith}
 use Rattle.std.proofs.lemmas.List.{take-take, take-map, get_or-take, length-take, length-map}
-use Rattle.clock.specs.Time.{Time, Laws}
+use Rattle.clock.specs.Time.{Time}
 use Rattle.part.specs.Kind.{Kind}
 use Rattle.part.specs.declared.part.Output.{Output}
-use Rattle.coupling.specs.Wiring.{Wiring, reached, reached_board}
+use Rattle.coupling.specs.Wiring.{reached, reached_board}
 use Rattle.coupling.specs.declared.coupling.Source.{Source}
 use Rattle.coupling.specs.declared.coupling.Source.TheVariants as source
-use Rattle.session.specs.Machine.{Model, Memory, memory, due, dues, Imminent, NoneDue, given, delivered, deliver, changed_at, output_at, output_of, event_of, fired}
+use Rattle.session.specs.Machine.{Model, Memory, memory, due, dues, Imminent, NoneDue, given, delivered, deliver, changed_at, output_of, event_of, fired}
 use Rattle.session.specs.Calls as calls
 use Rattle.session.specs.Calls.{Asks, Few, DueBefore, Puts, Steps, Ready, Halts, Runs, halts, silent, event, told, after_firing}
 use Rattle.session.specs.declared.places.Place.{Place}

@@ -1,13 +1,12 @@
 -- The classic machine of a flattened network, call after call from opening. It holds a place for each part, and now. It is given each
 -- call's arguments and how many places and records the call is lent, and no answer.
-use Rattle.std.specs.Prelude.{◌≡◌, ℕ, ◌-◌, ◌<◌, min, false, ◌⊎◌, List, [], ◌∷◌, ◌++◌, map, length, take, drop, Ok, Err, Option, Result}
+use Rattle.std.specs.Prelude.{◌≡◌, ℕ, ◌-◌, ◌<◌, min, false, ◌⊎◌, List, [], ◌∷◌, ◌++◌, map, length, take, drop, Ok, Err, Result}
 use Rattle.session.specs.Machine.{Model, Memory, memory}
 use Rattle.session.specs.Calls as calls
 use Rattle.session.specs.Calls.{Asks, Few, Puts, Steps, Runs, Traced}
 use Rattle.session.specs.declared.places.Place.{Place}
 use Rattle.session.specs.declared.places.Event.{Event}
 use Rattle.session.specs.declared.answers.Refusal.{Refusal}
-use Rattle.session.specs.declared.answers.Firing.{Firing}
 use Rattle.session.specs.declared.answers.Ran.{Ran}
 use Rattle.replay.specs.declared.calls.Call.{Call}
 use Rattle.replay.specs.declared.calls.Call.TheVariants as call

@@ -29,7 +29,7 @@ fn run_within<P: Part<C>, C: Clock, K: Coupling>(
     room: usize,
     trace: &mut [Event<C>],
 ) -> Result<Ran, Refusal>
-    ensures runs_in_the_room { RunsIn (model C.Clock.time P.Part.kind (wiring coupling.now)) horizon budget room (traced (memory places.old session.old.now) trace.old) (traced (memory places.new session.new.now) trace.new) result }
+    ensures runs_in_the_room { RunsIn (model C.Clock.time P.Part.kind (K.Coupling.wiring coupling.now)) horizon budget room (traced (memory places.old session.old.now) trace.old) (traced (memory places.new session.new.now) trace.new) result }
 {
     let records = room.min(trace.len());
     session.run(coupling, places, horizon, budget, &mut trace[0..records])
@@ -43,7 +43,7 @@ fn make<P: Part<C>, C: Clock, K: Coupling>(
     call: Call<C>,
     trace: &mut [Event<C>],
 ) -> Answer<C>
-    ensures makes_the_call { Made (model C.Clock.time P.Part.kind (wiring coupling.now)) (record { call = call; places = length places.old }) (traced (memory places.old session.old.now) trace.old) (traced (memory places.new session.new.now) trace.new) result }
+    ensures makes_the_call { Made (model C.Clock.time P.Part.kind (K.Coupling.wiring coupling.now)) (record { call = call; places = length places.old }) (traced (memory places.old session.old.now) trace.old) (traced (memory places.new session.new.now) trace.new) result }
 {
     match call {
         Call::Put {
@@ -69,9 +69,9 @@ fn lend<P: Part<C>, C: Clock, K: Coupling>(
     lent: Lent<C>,
     trace: &mut [Event<C>],
 ) -> Answer<C>
-    requires has_places { (wiring coupling.now).parts ≤ length places.old }
-    ensures the_machine_makes_it { Made (model C.Clock.time P.Part.kind (wiring coupling.now)) lent (traced (own (model C.Clock.time P.Part.kind (wiring coupling.now)) places.old session.old.now) trace.old) (traced (own (model C.Clock.time P.Part.kind (wiring coupling.now)) places.new session.new.now) trace.new) result }
-    ensures leaves_spare_places { drop (wiring coupling.now).parts places.new ≡ drop (wiring coupling.now).parts places.old }
+    requires has_places { (K.Coupling.wiring coupling.now).parts ≤ length places.old }
+    ensures the_machine_makes_it { Made (model C.Clock.time P.Part.kind (K.Coupling.wiring coupling.now)) lent (traced (own (model C.Clock.time P.Part.kind (K.Coupling.wiring coupling.now)) places.old session.old.now) trace.old) (traced (own (model C.Clock.time P.Part.kind (K.Coupling.wiring coupling.now)) places.new session.new.now) trace.new) result }
+    ensures leaves_spare_places { drop (K.Coupling.wiring coupling.now).parts places.new ≡ drop (K.Coupling.wiring coupling.now).parts places.old }
 {
     let count = lent.places.min(places.len());
     make(coupling, session, &mut places[0..count], lent.call, trace)
@@ -94,8 +94,8 @@ fn make_all<P: Part<C>, C: Clock, K: Coupling>(
     answers: &mut [Answer<C>],
     trace: &mut [Event<C>],
 ) -> Replayed
-    requires has_places { (wiring coupling.now).parts ≤ length places.old }
-    ensures replays { Replay (model C.Clock.time P.Part.kind (wiring coupling.now)) (own (model C.Clock.time P.Part.kind (wiring coupling.now)) places.old session.old.now) calls.now (loan places.old session.old.now answers.old trace.old) (loan places.new session.new.now answers.new trace.new) result }
+    requires has_places { (K.Coupling.wiring coupling.now).parts ≤ length places.old }
+    ensures replays { Replay (model C.Clock.time P.Part.kind (K.Coupling.wiring coupling.now)) (own (model C.Clock.time P.Part.kind (K.Coupling.wiring coupling.now)) places.old session.old.now) calls.now (loan places.old session.old.now answers.old trace.old) (loan places.new session.new.now answers.new trace.new) result }
 {
     let count = calls.len().min(answers.len());
     let mut events: usize = 0;
@@ -122,11 +122,11 @@ pub fn replay<P: Part<C>, C: Clock, K: Coupling>(
     answers: &mut [Answer<C>],
     trace: &mut [Event<C>],
 ) -> Result<Replayed, Refusal>
-    ensures follows_the_machine_from_opening { ReplaysFrom (model C.Clock.time P.Part.kind (wiring coupling.now)) starts.now calls.now (loan places.old session.old.now answers.old trace.old) (loan places.new session.new.now answers.new trace.new) result }
+    ensures follows_the_machine_from_opening { ReplaysFrom (model C.Clock.time P.Part.kind (K.Coupling.wiring coupling.now)) starts.now calls.now (loan places.old session.old.now answers.old trace.old) (loan places.new session.new.now answers.new trace.new) result }
     ensures refusal_changes_nothing { Kept (loan places.old session.old.now answers.old trace.old) (loan places.new session.new.now answers.new trace.new) result }
-    ensures leaves_spare_places_and_other_records { RestKept (model C.Clock.time P.Part.kind (wiring coupling.now)) (loan places.old session.old.now answers.old trace.old) (loan places.new session.new.now answers.new trace.new) result }
-    ensures has_one_outcome { OnlyOutcome (ReplaysFrom (model C.Clock.time P.Part.kind (wiring coupling.now)) starts.now calls.now (loan places.old session.old.now answers.old trace.old)) (loan places.new session.new.now answers.new trace.new) result }
-    ensures machine_has_one_outcome { OneOutcome (model C.Clock.time P.Part.kind (wiring coupling.now)) }
+    ensures leaves_spare_places_and_other_records { RestKept (model C.Clock.time P.Part.kind (K.Coupling.wiring coupling.now)) (loan places.old session.old.now answers.old trace.old) (loan places.new session.new.now answers.new trace.new) result }
+    ensures has_one_outcome { OnlyOutcome (ReplaysFrom (model C.Clock.time P.Part.kind (K.Coupling.wiring coupling.now)) starts.now calls.now (loan places.old session.old.now answers.old trace.old)) (loan places.new session.new.now answers.new trace.new) result }
+    ensures machine_has_one_outcome { OneOutcome (model C.Clock.time P.Part.kind (K.Coupling.wiring coupling.now)) }
 {
     match session.open(coupling, places, starts) {
         Ok(()) => Ok(make_all(coupling, session, places, calls, answers, trace)),

@@ -1,18 +1,17 @@
 -- What makes up an accepted call, and what follows from one.
-use Rattle.std.proofs.Common.{◌≡◌, ℕ, zero, suc, ◌+◌, ◌-◌, ◌<◌, ◌≤◌, Bool, true, false, cond, not, eqb, ◌⊎◌, List, [], ◌∷◌, ◌++◌, map, length, get_or, take, drop, set, Some, None, Ok, Err, MatchBool, Option, Result, sym, refl, ap, ◌∙◌, subst, inl, inr, ⊎_elim, arith}
-use Rattle.std.proofs.lemmas.List.{get_or_default, get_or_past, drop-set-lt, take_more, map_more, length-map, length-take-le, set_at, append_assoc, drop_more}
+use Rattle.std.proofs.Common.{◌≡◌, ℕ, ◌+◌, ◌<◌, ◌≤◌, Bool, true, false, not, List, [], ◌∷◌, ◌++◌, map, length, get_or, take, drop, set, Ok, Err, MatchBool, Option, sym, refl, ap, ◌∙◌, subst, inl, inr, ⊎_elim, arith}
+use Rattle.std.proofs.lemmas.List.{map_more, length-map, length-take-le, set_at, append_assoc, drop_more}
 use Rattle.std.proofs.lemmas.Bool.{both_ways, cond-true, cond-false, eq-eqb, ne_eqb, cases_lt}
 use Rattle.clock.specs.Time.{Time, Laws}
-use Rattle.part.specs.Kind.{Kind}
-use Rattle.coupling.specs.Wiring.{Wiring, reached}
+use Rattle.coupling.specs.Wiring.{reached}
 use Rattle.coupling.specs.declared.coupling.Source.{Source}
 use Rattle.coupling.specs.declared.coupling.Source.TheVariants as source
-use Rattle.session.specs.Machine.{Model, Memory, dues, Imminent, NoneDue, event_of, deliver, delivered, given, fired, output_of, changed_at}
+use Rattle.session.specs.Machine.{Model, Memory, dues, Imminent, NoneDue, event_of, deliver, fired, output_of, changed_at}
 use Rattle.session.specs.Calls.{Few, BadPins, DueBefore, Puts, Steps, Reached, FiredAlone, told, after_firing}
 use Rattle.session.specs.declared.places.Place.{Place}
 use Rattle.session.specs.declared.answers.Refusal.{Refusal}
 use Rattle.session.specs.declared.answers.Firing.{Firing}
-use Rattle.session.proofs.Deliveries.{delivered_at, delivered_after, delivered_length}
+use Rattle.session.proofs.Deliveries.{delivered_at, delivered_after}
 use Rattle.session.proofs.Firings.{changed_at_other, changed_at_length}
 use Rattle.session.proofs.Imminence.{none_some}
 
@@ -59,14 +58,14 @@ module _ {P C : Type 0} (M : Model P C) where
     takes_input = λ j d l r.
         ap (λ x. get_or x j d) e ∙ delivered_at M.time M.kind m v M.wiring.parts (reached M.wiring s pins) before j d l (omega arith)
         ∙ cond-false _ _ _ (ne_eqb (reached M.wiring s pins j) 0 (λ z. omega (arith, z)));
-    others_stay = λ j d no-input. ap (λ x. get_or x j d) e ∙ others j d no-input;
+    others_stay = λ j d no_input. ap (λ x. get_or x j d) e ∙ others j d no_input;
   }
     where
       others : (j : ℕ) (d : Place P C) → (j < M.wiring.parts → 0 < reached M.wiring s pins j → ⊥) → get_or (deliver M m s pins v before) j d ≡ get_or before j d
-      others j d no-input =
+      others j d no_input =
           ⊎_elim
           (λ l. delivered_at M.time M.kind m v M.wiring.parts (reached M.wiring s pins) before j d l (omega arith)
-          ∙ cond-true _ _ _ (eq-eqb (reached M.wiring s pins j) 0 (⊎_elim (λ r. absurd (no-input l r)) (λ r. omega arith) (cases_lt 0 (reached M.wiring s pins j)))))
+          ∙ cond-true _ _ _ (eq-eqb (reached M.wiring s pins j) 0 (⊎_elim (λ r. absurd (no_input l r)) (λ r. omega arith) (cases_lt 0 (reached M.wiring s pins j)))))
           (λ l. delivered_after M.time M.kind m v M.wiring.parts (reached M.wiring s pins) before j d l)
           (cases_lt j M.wiring.parts)
 

@@ -1,13 +1,13 @@
 -- A firing: the output, internal, and the delivery.
-use Rattle.std.proofs.Common.{◌≡◌, ℕ, zero, suc, ◌+◌, ◌<◌, ◌≤◌, List, [], ◌∷◌, map, length, get_or, set, sym, refl, ap, ◌∙◌, subst, le_of_suc-le-suc, not-suc-le-zero, arith}
+use Rattle.std.proofs.Common.{◌≡◌, ℕ, zero, suc, ◌<◌, List, [], ◌∷◌, length, get_or, set, sym, refl, ap, ◌∙◌, le_of_suc-le-suc, not-suc-le-zero, arith}
 use Rattle.std.proofs.lemmas.List.{get_or-map}
 use Rattle.clock.specs.Time.{Time}
 use Rattle.part.specs.Kind.{Kind}
 use Rattle.part.specs.declared.part.Output.{Output}
 use Rattle.coupling.specs.Rows.{set_of}
-use Rattle.coupling.specs.Wiring.{Wiring, Reaches, reached, reached_board}
+use Rattle.coupling.specs.Wiring.{Reaches, reached, reached_board}
 use Rattle.coupling.specs.declared.coupling.Source.{Source}
-use Rattle.coupling.specs.declared.coupling.Source.TheVariants.{Part, Board}
+use Rattle.coupling.specs.declared.coupling.Source.TheVariants.{Part}
 use Rattle.coupling.specs.declared.rows.Row.{Row}
 use Rattle.session.specs.declared.places.Place.{Place}
 use Rattle.session.specs.declared.places.Event.{Event}

@@ -1,12 +1,12 @@
 -- The imminent part, found one part after another; and there is only one.
-use Rattle.std.proofs.Common.{◌≡◌, ℕ, zero, suc, ◌+◌, ◌<◌, ◌≤◌, Bool, true, false, cond, ◌⊎◌, List, [], ◌∷◌, ◌++◌, map, length, get_or, take, IfSome, Some, None, Option, sym, refl, ap, ◌∙◌, subst, inl, inr, ⊎_elim, arith}
+use Rattle.std.proofs.Common.{◌≡◌, ℕ, ◌+◌, ◌<◌, true, false, ◌⊎◌, List, [], ◌∷◌, ◌++◌, map, length, get_or, take, IfSome, Some, None, Option, sym, refl, ap, ◌∙◌, subst, inl, inr, ⊎_elim, arith}
 use Rattle.std.proofs.lemmas.List.{get_or_append_left, get_or-append_right, get_or_past, get_or_push, length-map, length-take-le, length-take, map_more}
 use Rattle.std.proofs.lemmas.Bool.{cases_order, cases_lt, cases_Bool, both_ways, cond-true, cond-false}
 use Rattle.clock.specs.Time.{Time, Laws}
 use Rattle.part.specs.Kind.{Kind}
 use Rattle.session.specs.declared.places.Place.{Place}
 use Rattle.session.specs.declared.scan.Due.{Due}
-use Rattle.session.specs.Machine.{Imminent, NoneDue, First, due}
+use Rattle.session.specs.Machine.{Imminent, First, due}
 use Rattle.session.specs.Scan.{sooner}
 
 pub some_same : {X : Type 0} (a b : X) → Some a ≡ Some b → a ≡ b

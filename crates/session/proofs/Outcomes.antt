@@ -1,8 +1,7 @@
 -- Each call's relation pins its outcome.
-use Rattle.std.proofs.Common.{◌≡◌, ℕ, zero, suc, ◌+◌, ◌-◌, ◌<◌, ◌≤◌, Bool, true, false, cond, eqb, ◌⊎◌, List, [], ◌∷◌, ◌++◌, length, get_or, Some, None, Ok, Err, Option, Result, sym, refl, ap, ◌∙◌, subst, subst₂, inl, inr, ⊎_elim, arith}
-use Rattle.clock.specs.Time.{Time, Laws}
+use Rattle.std.proofs.Common.{◌≡◌, ℕ, false, cond, eqb, ◌⊎◌, List, Some, None, Ok, Err, Option, Result, sym, refl, ap, ◌∙◌, subst₂, inl, inr, arith}
+use Rattle.clock.specs.Time.{Laws}
 use Rattle.session.specs.Machine.{Model, Memory, dues, Imminent, NoneDue, event_of}
-use Rattle.session.specs.Calls
 use Rattle.session.specs.Calls.{Asks, Refuses, Kept, OnlyOutcome, Opens, Next, Puts, Steps, told, after_firing}
 use Rattle.session.specs.declared.places.Place.{Place}
 use Rattle.session.specs.Numbers.{refusal_number}

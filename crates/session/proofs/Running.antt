@@ -1,5 +1,5 @@
 -- A run, one firing after another.
-use Rattle.std.proofs.Common.{◌≡◌, ℕ, zero, suc, ◌+◌, ◌-◌, ◌<◌, ◌≤◌, List, [], ◌∷◌, ◌++◌, length, get_or, take, drop, set, sym, refl, ap, ◌∙◌, subst, subst₂, add-zero, zero-add, arith}
+use Rattle.std.proofs.Common.{◌≡◌, ℕ, suc, ◌+◌, ◌-◌, ◌<◌, ◌≤◌, List, [], ◌∷◌, ◌++◌, length, get_or, take, drop, set, sym, refl, ap, ◌∙◌, subst, subst₂, add-zero, arith}
 use Rattle.std.proofs.lemmas.List.{append-nil, append_assoc, length_push, drop_more, set_at, get_or-append_right, get_or-drop, length-map, length-take}
 use Rattle.session.specs.Machine.{Model, Memory, event_of, due, dues}
 use Rattle.session.specs.Calls.{Ready, Halts, Runs, halts, silent, event, Run, Traced, traced, after_firing}

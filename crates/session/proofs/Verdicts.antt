@@ -1,10 +1,10 @@
 -- A run's next decision, and so its outcome, is pinned.
-use Rattle.std.proofs.Common.{◌≡◌, ℕ, zero, suc, ◌+◌, ◌-◌, ◌<◌, ◌≤◌, Bool, true, false, cond, eqb, ◌⊎◌, List, [], ◌∷◌, ◌++◌, length, drop, Some, None, Ok, Err, Option, Result, sym, refl, ap, ◌∙◌, subst, subst₂, inl, inr, ⊎_elim, add-one, arith}
+use Rattle.std.proofs.Common.{◌≡◌, ℕ, suc, ◌<◌, cond, eqb, List, [], ◌∷◌, ◌++◌, length, drop, Some, None, Ok, Option, Result, sym, refl, ap, ◌∙◌, subst, subst₂, ⊎_elim, add-one, arith}
 use Rattle.std.proofs.lemmas.List.{append-nil, append_assoc, length_push}
 use Rattle.std.proofs.lemmas.Bool.{cond-true, cond-false, eq-eqb, ne_eqb, cases_eq}
 use Rattle.clock.specs.Time.{Time, Laws}
 use Rattle.session.specs.Machine.{Model, Memory, dues, Imminent, NoneDue, First, event_of}
-use Rattle.session.specs.Calls.{Ready, Halts, Decided, Runs, halts, silent, event, Run, RunsTo, Traced, traced, after_firing, Kept, OnlyOutcome}
+use Rattle.session.specs.Calls.{Decided, Runs, halts, silent, event, Run, RunsTo, Traced, after_firing, OnlyOutcome}
 use Rattle.session.specs.Scan.{sooner}
 use Rattle.session.specs.declared.places.Place.{Place}
 use Rattle.session.specs.declared.places.Event.{Event}
@@ -16,7 +16,7 @@ use Rattle.session.specs.declared.answers.Ran.{Ran}
 use Rattle.session.specs.declared.answers.Stop.{Stop}
 use Rattle.session.specs.declared.answers.Stop.TheVariants as stop
 use Rattle.session.proofs.Imminence.{first_more, imminent_only, none_some}
-use Rattle.session.proofs.Outcomes.{asks_only, asks_kept, ok_kept}
+use Rattle.session.proofs.Outcomes.{asks_only}
 
 abbrev scan_from : {C : Type 0} → Time C → Option (Due C) → ℕ → List (Option C) → Option (Due C)
 scan_from time best i [] = best

@@ -32,8 +32,8 @@ pub(crate) fn decide<P: Part<C>, C: Clock, K: Coupling>(
     budget: u16,
     room: usize,
 ) -> Decision<C>
-    requires has_places { (wiring coupling.now).parts ≤ length places.now }
-    ensures decides_as_the_rules_say { Decided (model C.Clock.time P.Part.kind (wiring coupling.now)) horizon budget room places.now result }
+    requires has_places { (K.Coupling.wiring coupling.now).parts ≤ length places.now }
+    ensures decides_as_the_rules_say { Decided (model C.Clock.time P.Part.kind (K.Coupling.wiring coupling.now)) horizon budget room places.now result }
 {
     match (budget, imminent(places, coupling.parts())) {
         (0, _) => Decision::Halt(Stop::Budget),

@@ -60,9 +60,9 @@ pub(crate) fn fire<P: Part<C>, C: Clock, K: Coupling>(
     coupling: &K,
     due: Due<C>,
 ) -> Event<C>
-    requires has_a_place { ((wiring coupling.now).parts ≤ length places.old) × (due.part < (wiring coupling.now).parts) }
-    ensures tells_the_event { result ≡ event_of (model C.Clock.time P.Part.kind (wiring coupling.now)) places.old due.moment due.part }
-    ensures leaves_it_fired { places.new ≡ fired (model C.Clock.time P.Part.kind (wiring coupling.now)) places.old due.moment due.part }
+    requires has_a_place { ((K.Coupling.wiring coupling.now).parts ≤ length places.old) × (due.part < (K.Coupling.wiring coupling.now).parts) }
+    ensures tells_the_event { result ≡ event_of (model C.Clock.time P.Part.kind (K.Coupling.wiring coupling.now)) places.old due.moment due.part }
+    ensures leaves_it_fired { places.new ≡ fired (model C.Clock.time P.Part.kind (K.Coupling.wiring coupling.now)) places.old due.moment due.part }
 {
     let place = places[due.part];
     let output = place.part.output();

@@ -21,8 +21,8 @@ fn firings<P: Part<C>, C: Clock, K: Coupling>(
     budget: u16,
     trace: &mut [Event<C>],
 ) -> Ran
-    requires has_places { (wiring coupling.now).parts ≤ length places.old }
-    ensures runs { Run (model C.Clock.time P.Part.kind (wiring coupling.now)) horizon budget (traced (memory places.old session.entry.now.now) trace.old) (traced (memory places.new session.exit.now.now) trace.new) result }
+    requires has_places { (K.Coupling.wiring coupling.now).parts ≤ length places.old }
+    ensures runs { Run (model C.Clock.time P.Part.kind (K.Coupling.wiring coupling.now)) horizon budget (traced (memory places.old session.old.now) trace.old) (traced (memory places.new session.new.now) trace.new) result }
 {
     let mut steps: u16 = 0;
     let mut events: u16 = 0;
@@ -59,10 +59,10 @@ impl<C: Clock> Session<C> {
         budget: u16,
         trace: &mut [Event<C>],
     ) -> Result<Ran, Refusal>
-        ensures repeats_step { RunsTo (model C.Clock.time P.Part.kind (wiring coupling.now)) horizon budget (traced (memory places.old self.entry.now.now) trace.old) (traced (memory places.new self.exit.now.now) trace.new) result }
-        ensures refusal_leaves_memory_and_trace { Kept (traced (memory places.old self.entry.now.now) trace.old) (traced (memory places.new self.exit.now.now) trace.new) result }
+        ensures repeats_step { RunsTo (model C.Clock.time P.Part.kind (K.Coupling.wiring coupling.now)) horizon budget (traced (memory places.old self.old.now) trace.old) (traced (memory places.new self.new.now) trace.new) result }
+        ensures refusal_leaves_memory_and_trace { Kept (traced (memory places.old self.old.now) trace.old) (traced (memory places.new self.new.now) trace.new) result }
         ensures writes_no_other_record { LaterKept result trace.old trace.new }
-        ensures has_one_outcome { OnlyOutcome (RunsTo (model C.Clock.time P.Part.kind (wiring coupling.now)) horizon budget (traced (memory places.old self.entry.now.now) trace.old)) (traced (memory places.new self.exit.now.now) trace.new) result }
+        ensures has_one_outcome { OnlyOutcome (RunsTo (model C.Clock.time P.Part.kind (K.Coupling.wiring coupling.now)) horizon budget (traced (memory places.old self.old.now) trace.old)) (traced (memory places.new self.new.now) trace.new) result }
     {
         if places.len() < coupling.parts() {
             return Err(Refusal::TooFewPlaces);

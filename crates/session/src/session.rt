@@ -23,8 +23,8 @@ pub fn next<P: Part<C>, C: Clock, K: Coupling>(
     coupling: &K,
     places: &[Place<P, C>],
 ) -> Result<Option<C>, Refusal>
-    ensures answers_the_earliest { Next (model C.Clock.time P.Part.kind (wiring coupling.now)) places.now result }
-    ensures has_one_outcome { OnlyAnswer (Next (model C.Clock.time P.Part.kind (wiring coupling.now)) places.now) result }
+    ensures answers_the_earliest { Next (model C.Clock.time P.Part.kind (K.Coupling.wiring coupling.now)) places.now result }
+    ensures has_one_outcome { OnlyAnswer (Next (model C.Clock.time P.Part.kind (K.Coupling.wiring coupling.now)) places.now) result }
 {
     let parts = coupling.parts();
     if places.len() < parts {
@@ -94,9 +94,9 @@ impl<C: Clock> Session<C> {
         places: &mut [Place<P, C>],
         starts: &[P],
     ) -> Result<(), Refusal>
-        ensures starts_every_part { Opens (model C.Clock.time P.Part.kind (wiring coupling.now)) starts.now (memory places.old self.entry.now.now) (memory places.new self.exit.now.now) result }
-        ensures refusal_leaves_memory { Kept (memory places.old self.entry.now.now) (memory places.new self.exit.now.now) result }
-        ensures has_one_outcome { OnlyOutcome (Opens (model C.Clock.time P.Part.kind (wiring coupling.now)) starts.now (memory places.old self.entry.now.now)) (memory places.new self.exit.now.now) result }
+        ensures starts_every_part { Opens (model C.Clock.time P.Part.kind (K.Coupling.wiring coupling.now)) starts.now (memory places.old self.old.now) (memory places.new self.new.now) result }
+        ensures refusal_leaves_memory { Kept (memory places.old self.old.now) (memory places.new self.new.now) result }
+        ensures has_one_outcome { OnlyOutcome (Opens (model C.Clock.time P.Part.kind (K.Coupling.wiring coupling.now)) starts.now (memory places.old self.old.now)) (memory places.new self.new.now) result }
     {
         let parts = coupling.parts();
         if places.len() < parts || starts.len() < parts {
@@ -116,10 +116,10 @@ impl<C: Clock> Session<C> {
         pins: u8,
         value: u8,
     ) -> Result<(), Refusal>
-        ensures delivers_the_input { Puts (model C.Clock.time P.Part.kind (wiring coupling.now)) moment pins value (memory places.old self.entry.now.now) (memory places.new self.exit.now.now) result }
-        ensures refusal_leaves_memory { Kept (memory places.old self.entry.now.now) (memory places.new self.exit.now.now) result }
-        ensures changes_exactly_what_is_reached { MatchResult result (λ _. Reached (model C.Clock.time P.Part.kind (wiring coupling.now)) moment Board pins value places.old places.new) (λ _. places.new ≡ places.old) }
-        ensures has_one_outcome { OnlyOutcome (Puts (model C.Clock.time P.Part.kind (wiring coupling.now)) moment pins value (memory places.old self.entry.now.now)) (memory places.new self.exit.now.now) result }
+        ensures delivers_the_input { Puts (model C.Clock.time P.Part.kind (K.Coupling.wiring coupling.now)) moment pins value (memory places.old self.old.now) (memory places.new self.new.now) result }
+        ensures refusal_leaves_memory { Kept (memory places.old self.old.now) (memory places.new self.new.now) result }
+        ensures changes_exactly_what_is_reached { MatchResult result (λ _. Reached (model C.Clock.time P.Part.kind (K.Coupling.wiring coupling.now)) moment Board pins value places.old places.new) (λ _. places.new ≡ places.old) }
+        ensures has_one_outcome { OnlyOutcome (Puts (model C.Clock.time P.Part.kind (K.Coupling.wiring coupling.now)) moment pins value (memory places.old self.old.now)) (memory places.new self.new.now) result }
     {
         let parts = coupling.parts();
         if places.len() < parts {
@@ -149,10 +149,10 @@ impl<C: Clock> Session<C> {
         coupling: &K,
         places: &mut [Place<P, C>],
     ) -> Result<Firing<C>, Refusal>
-        ensures fires_the_imminent_part { Steps (model C.Clock.time P.Part.kind (wiring coupling.now)) (memory places.old self.entry.now.now) (memory places.new self.exit.now.now) result }
-        ensures refusal_leaves_memory { Kept (memory places.old self.entry.now.now) (memory places.new self.exit.now.now) result }
-        ensures changes_only_what_fires_or_is_reached { MatchResult result (λ _. FiredAlone (model C.Clock.time P.Part.kind (wiring coupling.now)) places.old places.new) (λ _. places.new ≡ places.old) }
-        ensures has_one_outcome { OnlyOutcome (Steps (model C.Clock.time P.Part.kind (wiring coupling.now)) (memory places.old self.entry.now.now)) (memory places.new self.exit.now.now) result }
+        ensures fires_the_imminent_part { Steps (model C.Clock.time P.Part.kind (K.Coupling.wiring coupling.now)) (memory places.old self.old.now) (memory places.new self.new.now) result }
+        ensures refusal_leaves_memory { Kept (memory places.old self.old.now) (memory places.new self.new.now) result }
+        ensures changes_only_what_fires_or_is_reached { MatchResult result (λ _. FiredAlone (model C.Clock.time P.Part.kind (K.Coupling.wiring coupling.now)) places.old places.new) (λ _. places.new ≡ places.old) }
+        ensures has_one_outcome { OnlyOutcome (Steps (model C.Clock.time P.Part.kind (K.Coupling.wiring coupling.now)) (memory places.old self.old.now)) (memory places.new self.new.now) result }
     {
         let parts = coupling.parts();
         if places.len() < parts {

@@ -1,6 +1,6 @@
-use Rattle.std.proofs.Common.{◌≡◌, ◌-◌, ◌++◌, length, take, drop, sym, refl, ap, ◌∙◌, subst}
+use Rattle.std.proofs.Common.{◌-◌, ◌++◌, take, drop, ap}
 use native.Mathlib.Nat.{sub-zero}
-use Rattle.session.specs.Machine.{model, memory}
+use Rattle.session.specs.Machine.{model}
 use Rattle.replay.proofs.Lending.{lent_made}
 use Rattle.replay.proofs.replay.lend.Goals as goal
 

@@ -1,4 +1,3 @@
-use Rattle.std.proofs.Common.{◌≡◌, sym, refl, ap, ◌∙◌, subst, arith}
 use Rattle.session.specs.Machine.{model, memory}
 use Rattle.session.specs.Calls.{traced}
 use Rattle.replay.proofs.Making.{put_made, step_made, next_made, run_made}

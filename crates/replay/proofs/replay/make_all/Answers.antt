@@ -1,4 +1,4 @@
-use Rattle.std.proofs.Common.{◌≡◌, ◌+◌, ◌-◌, ◌<◌, ◌≤◌, ◌++◌, length, take, drop, set, sym, refl, ap, ◌∙◌, subst, subst₂, arith}
+use Rattle.std.proofs.Common.{◌+◌, ◌-◌, ◌<◌, ◌≤◌, ◌++◌, length, take, drop, sym, refl, ap, ◌∙◌, subst₂, arith}
 use Rattle.std.proofs.lemmas.List.{take_rest, length-drop}
 use Rattle.session.specs.Machine.{model}
 use Rattle.replay.specs.Replays.{own, loan, tells}
@@ -27,10 +27,10 @@ each-preserved g c =
     let before = loan c.args.places.now c.args.session.now.now c.args.answers.now c.args.trace.now in
     let a = c.lend-answer.result in
     let in_list : c.each.i < length c.args.calls.now = omega (arith, c.each-test.true, c.min-count.ensures) in
-    let in-answers : c.each.i < length c.args.answers.now = omega (arith, c.each-test.true, c.min-count.ensures) in
+    let in_answers : c.each.i < length c.args.answers.now = omega (arith, c.each-test.true, c.min-count.ensures) in
     let step =
     after_call M start c.args.calls.now before c.each.i n (loan c.each.places c.each.session.now c.each.answers trace) c.index-calls-i.result a c.lend-answer.new.places c.lend-answer.new.session.now
-    (take (length trace - n) (drop n trace)) c.lend-answer.new.trace (take n trace ++ (c.lend-answer.new.trace ++ drop (length trace - n) (drop n trace))) c.each.invariant in_list in-answers c.index-calls-i.is
+    (take (length trace - n) (drop n trace)) c.lend-answer.new.trace (take n trace ++ (c.lend-answer.new.trace ++ drop (length trace - n) (drop n trace))) c.each.invariant in_list in_answers c.index-calls-i.is
     (take_rest trace n) c.lend-answer.auto.trace (put_last n (length trace - n) trace c.lend-answer.new.trace refl) c.lend-answer.ensures.the_machine_makes_it c.lend-answer.ensures.leaves_spare_places in
     subst₂ (λ k l. Sofar M start c.args.calls.now before (c.each.i + 1) (n + k) (loan c.lend-answer.new.places c.lend-answer.new.session.now l (take n trace ++ (c.lend-answer.new.trace ++ drop (length trace - n) (drop n trace)))))
     (sym c.events-events.ensures.is_the_count_of_a_run) (sym c.store.ensures.writes_the_record) step

@@ -1,4 +1,4 @@
-use Rattle.std.proofs.Common.{◌≡◌, Ok, Err, sym, refl, ap, ◌∙◌, subst, inl, inr}
+use Rattle.std.proofs.Common.{◌≡◌, Ok, Err, refl, inr}
 use Rattle.session.specs.Machine.{model, memory}
 use Rattle.replay.specs.Replays.{loan, ReplaysFrom}
 use Rattle.replay.proofs.Once.{replays_only}

@@ -1,4 +1,4 @@
-use Rattle.std.proofs.Common.{◌≡◌, ◌++◌, length, take, drop, sym, refl, ap, ◌∙◌, subst, arith}
+use Rattle.std.proofs.Common.{◌++◌, take, drop, ap}
 use native.Mathlib.Nat.{sub-zero}
 use Rattle.session.specs.Machine.{model, memory}
 use Rattle.replay.proofs.Making.{run_in}

@@ -1,4 +1,4 @@
-use Rattle.std.proofs.Common.{◌≡◌, ◌<◌, length, refl, arith}
+use Rattle.std.proofs.Common.{◌<◌, length, refl, arith}
 use Rattle.session.specs.Machine.{model}
 use Rattle.session.proofs.Firings.{fire_event, fire_places}
 use Rattle.session.proofs.delivery.fire.Goals as goal

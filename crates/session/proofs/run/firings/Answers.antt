@@ -1,8 +1,7 @@
-use Rattle.std.proofs.Common.{◌≡◌, ℕ, ◌+◌, ◌-◌, ◌<◌, ◌≤◌, length, set, sym, refl, ap, ◌∙◌, subst, subst₂, ⊎_elim, arith}
+use Rattle.std.proofs.Common.{◌≡◌, ℕ, ◌+◌, ◌-◌, ◌<◌, length, set, sym, ap, ◌∙◌, subst, subst₂, ⊎_elim, arith, rules}
 use Rattle.std.proofs.lemmas.Bool.{cases_lt}
-use Rattle.session.specs.Machine.{model, memory, event_of}
-use Rattle.session.specs.Calls.{traced, Halts, Ready}
-use Rattle.session.specs.declared.places.Event.{Event}
+use Rattle.session.specs.Machine.{model, memory}
+use Rattle.session.specs.Calls.{traced, Halts}
 use Rattle.session.proofs.Running.{Sofar, at_start, at_halt, after_silent, after_event, ready_inside, event_pins}
 use Rattle.session.proofs.run.firings.Goals as goal
 
@@ -23,28 +22,35 @@ fire-event-requires g c =
     let M = model g.C.Clock.time g.P.Part.kind (g.K.Coupling.wiring c.args.coupling.now) in
     record { has_a_place = (omega (arith, c.requires.has_places, c.firings.auto.places), ready_inside M c.args.horizon _ _ _ _ c.in-Fire.ensures.decides_as_the_rules_say.0) }
 
+-- a firing with output goes on only if a record is free
+free_record : (records events room pins told : ℕ) → room ≡ records - events → 0 < pins → pins ≡ told → (room ≡ 0 → told ≡ 0) → events < records
+free_record records events room pins told is_room some is_told silent =
+    ⊎_elim (λ l. l) (λ l. let none : told ≡ 0 = silent (omega arith) in absurd (omega arith)) (cases_lt events records)
+
+pub offset_bounds-trace-from : goal.offset_bounds-trace-from
+offset_bounds-trace-from g c =
+    let free = free_record (length c.args.trace.now) c.firings.events _ _ _ (omega (arith, c.firings.auto.trace, c.from.ensures)) c.if-event-gt0.true (ap event_pins c.fire-event.ensures.tells_the_event) c.in-Fire.ensures.decides_as_the_rules_say.1 in
+    let here : c.from-then-event-gt0.result < length c.args.trace.now = omega (arith, free, c.from-then-event-gt0.ensures) in
+    search rules
+
 pub firings-preserved-then-event-gt0 : goal.firings-preserved-then-event-gt0
 firings-preserved-then-event-gt0 g c =
     let M = model g.C.Clock.time g.P.Part.kind (g.K.Coupling.wiring c.args.coupling.now) in
     let decided = c.in-Fire.ensures.decides_as_the_rules_say in
-    let is = c.fire_event.ensures.tells_the_event in
+    let is = c.fire-event.ensures.tells_the_event in
     let start = traced (memory c.args.places.now c.args.session.now.now) c.args.trace.now in
-    let free : c.firings.events < length c.args.trace.now =
-    ⊎_elim (λ h. h)
-    (λ h. let full : length c.firings.trace - c.from.result ≡ 0 = omega (arith, c.firings.auto.trace, c.from.ensures) in
-    absurd (omega (arith, c.if-event-gt0.true, ap event_pins is ∙ decided.1 full)))
-    (cases_lt c.firings.events (length c.args.trace.now)) in
-    subst₂ (λ l n. Sofar M c.args.horizon c.args.budget start (c.firings.steps + 1) (c.firings.events + 1) (traced (memory l c.in-Fire.due.moment) (set c.firings.trace n c.fire_event.result)))
-    (sym c.fire_event.ensures.leaves_it_fired) (sym c.from-then-event-gt0.ensures)
-    (after_event M c.args.horizon c.args.budget start c.firings.steps c.firings.events (traced (memory c.firings.places c.firings.session.now) c.firings.trace) _ _ c.fire_event.result c.firings.invariant
+    let free = free_record (length c.args.trace.now) c.firings.events _ _ _ (omega (arith, c.firings.auto.trace, c.from.ensures)) c.if-event-gt0.true (ap event_pins is) decided.1 in
+    subst₂ (λ l n. Sofar M c.args.horizon c.args.budget start (c.firings.steps + 1) (c.firings.events + 1) (traced (memory l c.in-Fire.due.moment) (set c.firings.trace n c.fire-event.result)))
+    (sym c.fire-event.ensures.leaves_it_fired) (sym c.from-then-event-gt0.ensures)
+    (after_event M c.args.horizon c.args.budget start c.firings.steps c.firings.events (traced (memory c.firings.places c.firings.session.now) c.firings.trace) _ _ c.fire-event.result c.firings.invariant
     decided.0 is c.if-event-gt0.true free)
 
 pub firings-preserved : goal.firings-preserved
 firings-preserved g c =
     let M = model g.C.Clock.time g.P.Part.kind (g.K.Coupling.wiring c.args.coupling.now) in
     let start = traced (memory c.args.places.now c.args.session.now.now) c.args.trace.now in
-    let none : c.fire_event.result.pins ≡ 0 = omega (arith, c.if-event-gt0.false) in
+    let none : c.fire-event.result.pins ≡ 0 = omega (arith, c.if-event-gt0.false) in
     subst (λ l. Sofar M c.args.horizon c.args.budget start (c.firings.steps + 1) c.firings.events (traced (memory l c.in-Fire.due.moment) c.firings.trace))
-    (sym c.fire_event.ensures.leaves_it_fired)
+    (sym c.fire-event.ensures.leaves_it_fired)
     (after_silent M c.args.horizon c.args.budget start c.firings.steps c.firings.events (traced (memory c.firings.places c.firings.session.now) c.firings.trace) _ _ c.firings.invariant
-    c.in-Fire.ensures.decides_as_the_rules_say.0 (sym (ap event_pins c.fire_event.ensures.tells_the_event) ∙ none))
+    c.in-Fire.ensures.decides_as_the_rules_say.0 (sym (ap event_pins c.fire-event.ensures.tells_the_event) ∙ none))

@@ -1,4 +1,4 @@
-use Rattle.std.proofs.Common.{◌≡◌, ◌<◌, ◌≤◌, map, length, take, subst, arith}
+use Rattle.std.proofs.Common.{◌≡◌, ◌<◌, map, length, take, subst, arith}
 use Rattle.session.specs.Machine.{due, First}
 use Rattle.session.proofs.Imminence.{first_next, first_inside}
 use Rattle.session.proofs.scan.imminent.Goals as goal

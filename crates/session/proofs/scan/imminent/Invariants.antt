@@ -1,4 +1,4 @@
-use Rattle.std.proofs.Common.{◌≤◌, map, length, take}
+use Rattle.std.proofs.Common.{map, take}
 use Rattle.session.specs.Machine.{due, First}
 use Rattle.session.proofs.scan.imminent.Given as goal
 

@@ -1,5 +1,5 @@
-use Rattle.std.proofs.Common.{◌≡◌, ◌<◌, ◌≤◌, ◌⊎◌, map, length, take, Some, None, Ok, Err, sym, refl, ap, ◌∙◌, subst, inl, inr, ⊎_elim, arith}
-use Rattle.session.specs.Machine.{model, memory, due, dues, Imminent, First, NoneDue}
+use Rattle.std.proofs.Common.{map, take, Some, None, Ok, refl, subst, inl, inr, arith}
+use Rattle.session.specs.Machine.{model, due, dues, Imminent, NoneDue}
 use Rattle.session.specs.Calls.{Next, Few}
 use Rattle.session.proofs.Outcomes.{next_only}
 use Rattle.session.proofs.session.next.Goals as goal

@@ -1,4 +1,4 @@
-use Rattle.std.proofs.Common.{◌≡◌, ◌<◌, ◌≤◌, ◌⊎◌, ◌++◌, map, length, take, drop, Ok, Err, sym, refl, ap, ◌∙◌, subst, inl, inr, ⊎_elim, arith}
+use Rattle.std.proofs.Common.{◌≡◌, ◌⊎◌, ◌++◌, map, take, drop, Ok, refl, ap, ◌∙◌, inr, arith}
 use Rattle.session.specs.Machine.{model, memory}
 use Rattle.session.specs.Calls.{Opens, Few}
 use Rattle.session.proofs.Outcomes.{opens_only}

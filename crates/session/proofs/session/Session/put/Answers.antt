@@ -1,7 +1,7 @@
-use Rattle.std.proofs.Common.{◌≡◌, ◌^◌, ◌<◌, ◌≤◌, ◌⊎◌, map, length, take, Some, None, Ok, Err, sym, refl, ap, ◌∙◌, subst, inl, inr, ⊎_elim, arith}
-use Rattle.session.specs.Machine.{model, memory, due, dues, Imminent, First, NoneDue, deliver}
+use Rattle.std.proofs.Common.{◌≡◌, ◌^◌, ◌≤◌, ◌⊎◌, map, take, Ok, sym, ap, ◌∙◌, subst, arith}
+use Rattle.session.specs.Machine.{model, memory, due, deliver}
 use Rattle.coupling.specs.declared.coupling.Source.TheVariants.{Board}
-use Rattle.session.specs.Calls.{Puts, Few, BadPins, DueBefore}
+use Rattle.session.specs.Calls.{Puts, Few, DueBefore}
 use Rattle.session.proofs.Accepted.{put_done, deliver_reaches}
 use Rattle.session.proofs.Firings.{deliver_row}
 use Rattle.session.proofs.Outcomes.{puts_only}

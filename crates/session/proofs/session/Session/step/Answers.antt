@@ -1,18 +1,18 @@
-use Rattle.std.proofs.Common.{◌≡◌, ◌<◌, ◌≤◌, ◌⊎◌, map, length, take, Some, None, Ok, Err, sym, refl, ap, ◌∙◌, subst, inl, inr, ⊎_elim, arith}
-use Rattle.session.specs.Machine.{model, memory, due, dues, Imminent, First, NoneDue}
-use Rattle.session.specs.Calls.{Steps, Few, told}
+use Rattle.std.proofs.Common.{map, take, sym, refl, ap, ◌∙◌, subst, arith}
+use Rattle.session.specs.Machine.{model, memory, due, dues, Imminent, NoneDue}
+use Rattle.session.specs.Calls.{Few, told}
 use Rattle.session.proofs.Accepted.{step_idle, step_late, step_done, fired_alone}
 use Rattle.session.proofs.Outcomes.{steps_only}
 use Rattle.session.proofs.session.Session.step.Goals as goal
 
-pub returns-in-default : goal.returns-in-default
-returns-in-default g c =
+pub returns-in_default : goal.returns-in_default
+returns-in_default g c =
     let M = model g.C.Clock.time g.P.Part.kind (g.K.Coupling.wiring c.args.coupling.now) in
     let places = c.args.places.now in
     let before = memory places c.args.self.now.now in
     let few : Few M.wiring places → ⊥ = λ f. omega (arith, f, c.parts-parts.ensures.is_the_count) in
     let none : NoneDue (dues M places) =
-    subst (λ n. NoneDue (map (due M.time M.kind) (take n places))) c.parts-parts.ensures.is_the_count c.in-default.ensures.is_imminent in
+    subst (λ n. NoneDue (map (due M.time M.kind) (take n places))) c.parts-parts.ensures.is_the_count c.in_default.ensures.is_imminent in
     let h = step_idle M before few none in
     record { fires_the_imminent_part = h; refusal_leaves_memory = refl; changes_only_what_fires_or_is_reached = refl; has_one_outcome = steps_only M g.met.C.Clock.lawful before _ _ h }
 
@@ -35,6 +35,6 @@ returns g c =
     let few : Few M.wiring places → ⊥ = λ f. omega (arith, f, c.parts-parts.ensures.is_the_count) in
     let found : Imminent M.time (dues M places) c.in-Some.due.moment c.in-Some.due.part =
     subst (λ n. Imminent M.time (map (due M.time M.kind) (take n places)) c.in-Some.due.moment c.in-Some.due.part) c.parts-parts.ensures.is_the_count c.in-Some.ensures.is_imminent in
-    let e = c.fire_event.ensures.leaves_it_fired in
-    let h = step_done M before (memory c.fire_event.new.places c.in-Some.due.moment) _ _ _ few found (sym c.if-not-within_ceiling.ensures.is_the_ceiling_test) (c.tell.ensures.silent_without_pins ∙ ap told c.fire_event.ensures.tells_the_event) (ap (λ l. memory l c.in-Some.due.moment) e) in
+    let e = c.fire-event.ensures.leaves_it_fired in
+    let h = step_done M before (memory c.fire-event.new.places c.in-Some.due.moment) _ _ _ few found (sym c.if-not-within_ceiling.ensures.is_the_ceiling_test) (c.tell.ensures.silent_without_pins ∙ ap told c.fire-event.ensures.tells_the_event) (ap (λ l. memory l c.in-Some.due.moment) e) in
     record { fires_the_imminent_part = h; refusal_leaves_memory = tt; changes_only_what_fires_or_is_reached = fired_alone M places _ _ _ (omega arith) found e; has_one_outcome = steps_only M g.met.C.Clock.lawful before _ _ h }

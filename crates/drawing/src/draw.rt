@@ -3,6 +3,7 @@ ghost use Rattle.std.specs.Prelude.{◌≡◌, MatchResult};
 ghost use Rattle.drawing.specs.declared.fault.Fault.TheVariants.{Misplaced};
 ghost use Rattle.drawing.specs.Calls.{sheet, blank, next_site, outer, OpensBlock, AddsPart, AddsWire, ClosesBlock, Kept, Finished, Unfinished};
 ghost use Rattle.drawing.specs.Lists.{lists, nothing};
+ghost use Rattle.drawing.specs.Unique.{Unique, OnlyOutcome};
 
 use crate::drawing::Drawing;
 use crate::ends::{Site, WireEnd};
@@ -59,6 +60,7 @@ impl<P: Drop> Drawing<P> {
     pub fn open_block(&mut self, name: Name, ins: u8, outs: u8) -> Result<(), Fault>
         ensures adds_the_block_or_refuses { OpensBlock name ins outs (sheet self.old) (sheet self.new) result }
         ensures refusal_changes_nothing { Kept (sheet self.old) (sheet self.new) result }
+        ensures has_one_outcome { OnlyOutcome (OpensBlock name ins outs (sheet self.old)) (sheet self.new) result }
     {
         let Some(site) = self.next_site() else {
             return Err(Fault::Misplaced);
@@ -74,6 +76,7 @@ impl<P: Drop> Drawing<P> {
     pub fn close_block(&mut self) -> Result<(), Fault>
         ensures closes_it_or_refuses { ClosesBlock (sheet self.old) (sheet self.new) result }
         ensures refusal_changes_nothing { Kept (sheet self.old) (sheet self.new) result }
+        ensures has_one_outcome { OnlyOutcome (ClosesBlock (sheet self.old)) (sheet self.new) result }
     {
         let Some(block) = self.current else {
             return Err(Fault::Misplaced);
@@ -90,6 +93,7 @@ impl<P: Drop> Drawing<P> {
     pub fn add_part(&mut self, name: Name, ins: u8, outs: u8, start: P) -> Result<(), Fault>
         ensures adds_the_part_or_refuses { AddsPart name ins outs start (sheet self.old) (sheet self.new) result }
         ensures refusal_changes_nothing { Kept (sheet self.old) (sheet self.new) result }
+        ensures has_one_outcome { OnlyOutcome (AddsPart name ins outs start (sheet self.old)) (sheet self.new) result }
     {
         let Some(block) = self.current else {
             return Err(Fault::Misplaced);
@@ -105,6 +109,7 @@ impl<P: Drop> Drawing<P> {
     pub fn add_wire(&mut self, from: WireEnd, to: WireEnd) -> Result<(), Fault>
         ensures adds_the_wire_or_refuses { AddsWire from to (sheet self.old) (sheet self.new) result }
         ensures refusal_changes_nothing { Kept (sheet self.old) (sheet self.new) result }
+        ensures has_one_outcome { Unique (sheet self.old).plan → OnlyOutcome (AddsWire from to (sheet self.old)) (sheet self.new) result }
     {
         let Some(block) = self.current else {
             return Err(Fault::Misplaced);

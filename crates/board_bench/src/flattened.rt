@@ -84,11 +84,11 @@ fn a_board_may_have_no_parts(rt: HostRuntime) -> Result<(), Fail> {
 #[test]
 fn parts_have_paths_and_starts(rt: HostRuntime) -> Result<(), Fail> {
     let board = three_levels(rt.alloc())?;
-    assert!(rt; board.path(rt.alloc(), 0)?.as_slice() == b"x/y/p");
-    assert!(rt; board.path(rt.alloc(), 1)?.as_slice() == b"x/y/q");
-    assert!(rt; board.path(rt.alloc(), 2)?.as_slice() == b"r");
+    assert!(rt; board.path(rt.alloc(), 0)?.as_slice() == b"x/y/p".as_slice());
+    assert!(rt; board.path(rt.alloc(), 1)?.as_slice() == b"x/y/q".as_slice());
+    assert!(rt; board.path(rt.alloc(), 2)?.as_slice() == b"r".as_slice());
     assert!(rt; board.path(rt.alloc(), 3)?.is_empty());
-    assert!(rt; board.starts() == &[7, 5, 6]);
+    assert!(rt; board.starts() == [7, 5, 6].as_slice());
     Ok(())
 }
 

@@ -29,7 +29,7 @@ module _ {C : Type 0} (time : Time C) where
   takes_sound : (st : Statement) (s t : Sheet (Catalogue C)) → Laws time → InRange st → Sound time s.starts → Takes time st s t (Ok tt) → Sound time t.starts
   takes_sound (Open name ins outs) s t laws range sound h = subst (λ (x : Sheet (Catalogue C)). Sound time x.starts) (sym (placed_ok _ _ _ s t h).is) sound
   takes_sound (Part name k) s t laws range sound h =
-      subst (λ (x : Sheet (Catalogue C)). Sound time x.starts) (sym (placed_ok _ _ _ s t h).is) (sound_more s.starts (start_of time k) sound (start_stocked k laws range))
+      subst (λ (x : Sheet (Catalogue C)). Sound time x.starts) (sym (placed_ok _ _ _ s t h).is) (sound_more s.starts (start_of time k) sound (start_stocked k laws range.0))
   takes_sound (Wire from to) s t laws range sound h = subst (λ (x : Sheet (Catalogue C)). Sound time x.starts) (sym (placed_ok _ _ _ s t h).is) sound
   takes_sound Close s t laws range sound (inl h) = absurd (ok_err tt _ h.1)
   takes_sound Close s t laws range sound (inr h) = subst (λ (x : Sheet (Catalogue C)). Sound time x.starts) (sym h.3) sound

@@ -41,20 +41,20 @@ read_item-read_block-requires g t c κs within =
     let inside = inner.1 in
     search rules
 
-pub read_item-returns-in_err-read_block : goal.read_item-returns-in_err-read_block
-read_item-returns-in_err-read_block g t c =
+pub read_item-returns-in_err-read_block-in-Open : goal.read_item-returns-in_err-read_block-in-Open
+read_item-returns-in_err-read_block-in-Open g t c =
     let time = g.C.Clock.time in
     let s = sheet c.args.drawing.now in
     let said = c.in_ok-next_statement.ensures.takes_it_or_refuses in
-    let p = err_from_is_err_and c.from_residual-in_err-read_block.result c.from_residual-in_err-read_block.ensures.1 in
-    let stopped = stops_before time c.args.lines.now s c.next_statement.new.lines (sheet c.next_statement.new.drawing) c.in_err-read_block.field-0.0 said.continues c.in_err-read_block.ensures.reads_or_refuses in
+    let p = err_from_is_err_and c.from_residual-in_err-read_block-in-Open.result c.from_residual-in_err-read_block-in-Open.ensures.1 in
+    let stopped = stops_before time c.args.lines.now s c.next_statement.new.lines (sheet c.next_statement.new.drawing) c.in_err-read_block-in-Open.field-0.0 said.continues c.in_err-read_block-in-Open.ensures.reads_or_refuses in
     record {
       reads_or_refuses =
           subst (λ r. ItemRead time c.args.lines.now s c.read_block.new.lines (sheet c.read_block.new.drawing) r) (sym p.1) (subst (λ e. Stops time c.args.lines.now s e) (sym p.2) stopped);
     }
 
-pub read_item-returns-in_ok-read_block : goal.read_item-returns-in_ok-read_block
-read_item-returns-in_ok-read_block g t c =
+pub read_item-returns-in_ok-read_block-in-Open : goal.read_item-returns-in_ok-read_block-in-Open
+read_item-returns-in_ok-read_block-in-Open g t c =
     let time = g.C.Clock.time in
     let s = sheet c.args.drawing.now in
     let u = sheet c.next_statement.new.drawing in
@@ -62,7 +62,7 @@ read_item-returns-in_ok-read_block g t c =
     let opened = opens c.in-Open.name c.in-Open.ins c.in-Open.outs s u c.requires.inside.block c.requires.inside.open_block (subst (λ st. Takes time st s u (Ok tt)) c.in-Open.is said.takes) in
     record {
       reads_or_refuses =
-          read_nested time c.args.lines.now s c.next_statement.new.lines c.read_block.new.lines u (sheet c.read_block.new.drawing) _ c.args.levels c.requires.inside said opened c.in_ok-read_block.ensures.reads_or_refuses;
+          read_nested time c.args.lines.now s c.next_statement.new.lines c.read_block.new.lines u (sheet c.read_block.new.drawing) _ c.args.levels c.requires.inside said opened c.in_ok-read_block-in-Open.ensures.reads_or_refuses;
     }
 
 pub read_item-returns-in-Part : goal.read_item-returns-in-Part

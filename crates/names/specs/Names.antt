@@ -1,5 +1,5 @@
 -- Names of blocks and parts: 1 to 8 letters a to z and digits, a letter first.
-use Rattle.std.specs.Prelude.{ℕ, Bool, true, ◌&&◌, ◌||◌, List, [], ◌∷◌, length, take, nat_le, nat_lt, slice_index}
+use Rattle.std.specs.Prelude.{◌≡◌, ℕ, ◌-◌, Bool, true, ◌&&◌, ◌||◌, List, [], ◌∷◌, length, take, drop, replicate, nat_le, nat_lt, slice_index}
 use Rattle.names.specs.declared.name.Name.{Name}
 
 abbrev pub letter : ℕ → Bool
@@ -17,3 +17,9 @@ well_named text = nat_lt 0 (length text) && nat_le (length text) 8 && letter (sl
 
 abbrev pub name_text : Name → List ℕ
 name_text n = take n.len n.letters
+
+-- the name is made of a text alone: it is well named, and zeros stand after it
+pub record Spelled (n : Name) : Type 0 where
+  pub well : well_named (name_text n) ≡ true
+  pub padded : drop n.len n.letters ≡ replicate (8 - n.len) 0
+  pub whole : length n.letters ≡ 8

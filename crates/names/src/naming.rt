@@ -1,6 +1,6 @@
 // Making and comparing names.
-ghost use Rattle.std.specs.Prelude.{◌≡◌, true, false, length, Decides, MatchOption};
-ghost use Rattle.names.specs.Names.{name_text, well_named};
+ghost use Rattle.std.specs.Prelude.{◌≡◌, true, false, length, Decides, IfSome, MatchOption};
+ghost use Rattle.names.specs.Names.{name_text, well_named, Spelled};
 
 use crate::name::Name;
 
@@ -20,6 +20,7 @@ impl Name {
     // The name that a text spells, or nothing where it is no name.
     pub fn new(text: &[u8]) -> Option<Name>
         ensures spells_it_or_refuses { MatchOption result (well_named text.now ≡ false) (λ n. (well_named text.now ≡ true) × (name_text n ≡ text.now)) }
+        ensures holds_the_text_alone { IfSome result Spelled }
     {
         if text.len() == 0 || text.len() > 8 {
             return None;

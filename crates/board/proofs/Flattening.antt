@@ -1,8 +1,8 @@
 -- The swept rows are the flattened network.
-use Rattle.std.proofs.Common.{◌≡◌, ℕ, zero, suc, ◌+◌, ◌-◌, ◌*◌, ◌/◌, ◌%◌, ◌<◌, ◌≤◌, true, ◌⊎◌, ◌↔◌, List, [], length, get_or, take, vec_items, vec_len, sym, refl, ap, ◌∙◌, subst, subst₂, inl, inr, ⊎_elim, zero-add, arith}
+use Rattle.std.proofs.Common.{◌≡◌, ℕ, ◌+◌, ◌-◌, ◌*◌, ◌/◌, ◌%◌, ◌<◌, ◌≤◌, ◌↔◌, List, length, take, vec_items, vec_len, sym, refl, ap, ◌∙◌, subst, subst₂, inl, inr, ⊎_elim, zero-add, arith}
 use Rattle.std.proofs.lemmas.List.{get_or_past, get_or-take, length-take-le}
 use Rattle.std.proofs.lemmas.Bool.{cases_lt}
-use Rattle.coupling.specs.Rows.{row_at, set_of, nothing, Joins}
+use Rattle.coupling.specs.Rows.{row_at, set_of, nothing}
 use Rattle.coupling.specs.Networks.{first_row}
 use Rattle.coupling.specs.Wiring.{Wiring}
 use Rattle.coupling.specs.declared.rows.Row.{Row}
@@ -10,8 +10,8 @@ use Rattle.coupling.specs.declared.coupling.Source.{Source}
 use Rattle.coupling.specs.declared.coupling.Source.TheVariants as source
 use Rattle.board.specs.Paths.{Has, Joined, Leads, wire, onwards, pin_of, Flattened, Agrees}
 use Rattle.board.specs.Ranks.{rank, place}
-use Rattle.board.specs.Sweep.{InTable, Target, Hits, Extended, Swept, Small}
-use Rattle.board.specs.Wires.{wire_at, leads, takes, sound_wire}
+use Rattle.board.specs.Sweep.{Target, Hits, Extended, Swept, Small}
+use Rattle.board.specs.Wires.{wire_at}
 use Rattle.board.specs.declared.pins.Pin.{Pin}
 use Rattle.board.specs.declared.pins.Pin.TheVariants.{PartIn, PartOut, BlockIn, BlockOut}
 use Rattle.board.specs.declared.pins.Wire.{Wire}

@@ -1,12 +1,12 @@
 -- Rows while a board is flattened.
-use Rattle.std.proofs.Common.{◌≡◌, ℕ, zero, suc, ◌+◌, ◌-◌, ◌*◌, ◌%◌, ◌^◌, ◌<◌, ◌≤◌, true, ◌⊎◌, List, [], length, get_or, set, replicate, sym, refl, ap, ◌∙◌, subst, subst₂, inl, inr, ⊎_elim, arith}
+use Rattle.std.proofs.Common.{◌≡◌, ℕ, zero, suc, ◌+◌, ◌*◌, ◌%◌, ◌^◌, ◌<◌, ◌≤◌, true, ◌⊎◌, List, length, get_or, set, replicate, sym, refl, ap, ◌∙◌, subst, inl, inr, ⊎_elim, arith}
 use Rattle.std.proofs.lemmas.Nat.{one_shl}
-use Rattle.std.proofs.lemmas.List.{get_or-set_same, get_or-set_other, get_or-replicate, get_or_past, length-set, get_or_default}
+use Rattle.std.proofs.lemmas.List.{get_or-set_same, get_or-set_other, get_or-replicate, length-set, get_or_default}
 use Rattle.std.proofs.lemmas.Bool.{cases_eq, cases_lt, false≢true}
 use Rattle.coupling.specs.Rows.{row_at, set_of, nothing, Joins}
 use Rattle.coupling.specs.declared.rows.Row.{Row}
 use Rattle.board.specs.Paths.{Has, Joined, Leads, wire, onwards}
-use Rattle.board.specs.Ranks.{rank, place, input_place}
+use Rattle.board.specs.Ranks.{rank, place}
 use Rattle.board.specs.Sweep.{InTable, Target, Hits, Small, Only, Extended, Swept}
 use Rattle.board.specs.Wires.{wire_at, leads, takes}
 use Rattle.board.specs.declared.pins.Pin.{Pin}

@@ -1,5 +1,5 @@
-use Rattle.std.proofs.Common.{◌≡◌, sym, refl, subst}
-use Rattle.board.specs.Sweep.{Only, Small}
+use Rattle.std.proofs.Common.{refl, subst}
+use Rattle.board.specs.Sweep.{Small}
 use Rattle.board.proofs.Sweeping.{only_part, only_board, only_none, only_at}
 use Rattle.board.proofs.flatten.alone.Goals as goal
 

@@ -1,4 +1,4 @@
-use Rattle.std.proofs.Common.{◌≡◌, set, sym, refl, ap, ◌∙◌, rules}
+use Rattle.std.proofs.Common.{set, ap, rules}
 use Rattle.board.proofs.Sweeping.{row_same, joins_first, joins_second}
 use Rattle.board.proofs.flatten.extend.Goals as goal
 

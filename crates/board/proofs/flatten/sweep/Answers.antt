@@ -1,4 +1,4 @@
-use Rattle.std.proofs.Common.{◌≡◌, ◌+◌, sym, refl, ap, ◌∙◌, subst, arith}
+use Rattle.std.proofs.Common.{◌+◌, sym, ap, ◌∙◌, subst, arith}
 use Rattle.board.specs.Sweep.{Swept}
 use Rattle.board.proofs.Flattening.{small_from, small_to, has_from, has_to, few_blocks, few_parts, rank_fits, adds, skips}
 use Rattle.board.proofs.flatten.sweep.Goals as goal

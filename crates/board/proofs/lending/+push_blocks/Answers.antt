@@ -1,4 +1,4 @@
-use Rattle.std.proofs.Common.{◌≡◌, ℕ, ◌<◌, is_ok, vec_items, sym, refl, ap, ◌∙◌, subst, arith}
+use Rattle.std.proofs.Common.{ℕ, ◌<◌, is_ok, vec_items, ap, arith}
 use Rattle.std.proofs.ResultArms.{chosen}
 use Rattle.board.specs.declared.parts.Block.{Block}
 use Rattle.board.proofs.Ways.{read_block, added_none, added_block}

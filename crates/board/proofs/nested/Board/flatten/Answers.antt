@@ -1,4 +1,4 @@
-use Rattle.std.proofs.Common.{◌≡◌, ℕ, ◌+◌, ◌*◌, ◌<◌, ◌≤◌, List, length, get_or, take, replicate, vec_items, vec_len, sym, refl, ap, ◌∙◌, subst, arith}
+use Rattle.std.proofs.Common.{◌≡◌, ℕ, ◌+◌, ◌*◌, ◌<◌, ◌≤◌, List, length, get_or, take, vec_items, vec_len, sym, refl, ap, ◌∙◌, subst, arith}
 use Rattle.std.proofs.lemmas.List.{length-replicate, take_at, get_or_default}
 use Rattle.coupling.specs.Networks.{first_row}
 use Rattle.coupling.specs.Wiring.{Wiring}
@@ -57,19 +57,13 @@ invariant_of-result g c =
     let some : 0 < m = omega (arith, c.args.self.now.has_the_board, em) in
     let last : c.turns.turn ≡ m + m + 1 = omega (arith, c.turns-test.false, c.turns.auto.turn-end) in
     let swept = swept_moved W W n n m m c.turns.turn (vec_items c.turns.rows) refl refl refl last c.turns.invariant in
-    let cut = c.truncate.ensures.items in (
-      few_parts plan W n m ew en em,
-      (
-        subst (λ b. b.ins ≤ 8) (sym (at_board (vec_items plan.blocks) _ c.index.ensures (omega (arith, some, em, plan.blocks.ok.0)))) (plan.block_pins 0).0,
-        (
-          c.truncate.new.self.ok.0 ∙ flat_long plan W n m ew en em some _ _ swept cut,
-          (
-            flat_itself plan W n m ew en em some _ _ swept cut,
-            (flat_absent plan W n m ew en em some _ _ swept cut, tt),
-          ),
-        ),
-      ),
-    )
+    let cut = c.truncate.ensures.items in record {
+      few_parts = few_parts plan W n m ew en em;
+      few_inputs = subst (λ b. b.ins ≤ 8) (sym (at_board (vec_items plan.blocks) _ c.index.ensures (omega (arith, some, em, plan.blocks.ok.0)))) (plan.block_pins 0).0;
+      a_row_for_each_pin = c.truncate.new.self.ok.0 ∙ flat_long plan W n m ew en em some _ _ swept cut;
+      none_to_itself = flat_itself plan W n m ew en em some _ _ swept cut;
+      none_to_absent = flat_absent plan W n m ew en em some _ _ swept cut;
+    }
 
 pub returns : goal.returns
 returns g c =

@@ -1,6 +1,6 @@
-use Rattle.std.proofs.Common.{◌≡◌, ℕ, ◌<◌, length, vec_items, sym, refl, ap, ◌∙◌, subst, arith}
+use Rattle.std.proofs.Common.{ℕ, ◌<◌, length, vec_items, ap, arith}
 use Rattle.board.specs.declared.parts.Component.{Component}
-use Rattle.board.proofs.Ways.{read_part, path_here, path_absent, Added}
+use Rattle.board.proofs.Ways.{read_part, path_here, path_absent}
 use Rattle.board.proofs.nested.Board.path.Goals as goal
 
 abbrev block_of : Component → ℕ

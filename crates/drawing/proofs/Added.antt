@@ -1,19 +1,17 @@
 -- What follows from the questions and from what is added.
-use Rattle.std.proofs.Common.{◌≡◌, ℕ, ◌+◌, ◌<◌, ◌≤◌, Bool, true, false, ◌&&◌, eqb, ltb, ◌⊎◌, List, [], ◌∷◌, ◌++◌, length, get_or, Some, None, Ok, Err, vec_items, vec_len, Option, Result, sym, refl, ap, ◌∙◌, subst, ap₂, inl, inr, ⊎_elim, arith, MatchResult}
+use Rattle.std.proofs.Common.{◌≡◌, ℕ, ◌+◌, ◌<◌, true, ◌⊎◌, List, length, get_or, Ok, Err, vec_items, vec_len, Result, sym, refl, ap, ◌∙◌, subst, inl, inr, ⊎_elim, arith, MatchResult}
 use Rattle.std.proofs.lemmas.List.{get_or_read, length_push}
 use Rattle.std.proofs.lemmas.Bool.{and_from, lt-ltb, eq-eqb, cases_Bool, cases_lt}
 use Rattle.board.specs.declared.parts.Block.{Block}
 use Rattle.board.specs.declared.parts.Component.{Component}
 use Rattle.board.specs.declared.pins.Pin.{Pin}
-use Rattle.board.specs.declared.pins.Pin.TheVariants.{PartIn, PartOut, BlockIn, BlockOut}
 use Rattle.board.specs.declared.pins.Wire.{Wire}
 use Rattle.board.specs.declared.plan.Plan.{Plan}
-use Rattle.board.specs.Wires.{block_at, component_at, wire_at, no_block, leads, takes, inside_from, inside_to, apart, sound_wire}
-use Rattle.drawing.specs.Children.{Stands, FindsFrom, FindsTo, IsChild}
+use Rattle.board.specs.Wires.{block_at, component_at, no_block, leads, takes, inside_from, inside_to, apart, sound_wire}
+use Rattle.drawing.specs.Children.{Stands, FindsFrom, FindsTo}
 use Rattle.drawing.specs.Calls.{Sheet, Kept}
-use Rattle.drawing.specs.Lists.{Lists, lists, with_block, with_component, with_wire}
-use Rattle.drawing.specs.Questions.{Asks, JoinAsked, WireAsked}
-use Rattle.drawing.specs.declared.ends.Found.{Found}
+use Rattle.drawing.specs.Lists.{Lists, lists, with_block, with_component}
+use Rattle.drawing.specs.Questions.{Asks, WireAsked}
 use Rattle.drawing.specs.declared.ends.Found.TheVariants as found
 use Rattle.drawing.specs.declared.ends.WireEnd.{WireEnd}
 use Rattle.drawing.specs.declared.ends.WireEnd.TheVariants.{Own, Child}

@@ -1,5 +1,5 @@
 -- A plan stays sound where a block, a component or a wire is added to it.
-use Rattle.std.proofs.Common.{◌≡◌, ℕ, zero, suc, ◌+◌, ◌<◌, ◌≤◌, Bool, true, false, cond, ◌&&◌, eqb, ltb, ◌⊎◌, List, [], ◌∷◌, ◌++◌, length, get_or, vec_items, vec_len, sym, refl, ap, ◌∙◌, subst, ap₂, inl, inr, ⊎_elim, arith}
+use Rattle.std.proofs.Common.{◌≡◌, ℕ, zero, suc, ◌<◌, ◌≤◌, Bool, true, false, cond, eqb, ltb, ◌⊎◌, List, [], ◌∷◌, ◌++◌, length, get_or, vec_items, sym, refl, ap, ◌∙◌, subst, ap₂, inl, inr, ⊎_elim, arith}
 use Rattle.std.proofs.lemmas.List.{get_or_append_left, get_or_push, length_push}
 use Rattle.std.proofs.lemmas.Bool.{and_parts, and_from, ltb-true, lt-ltb, cases_lt, false≢true}
 use Rattle.board.specs.declared.parts.Block.{Block}
@@ -8,7 +8,7 @@ use Rattle.board.specs.declared.pins.Pin.{Pin}
 use Rattle.board.specs.declared.pins.Pin.TheVariants.{PartIn, PartOut, BlockIn, BlockOut}
 use Rattle.board.specs.declared.pins.Wire.{Wire}
 use Rattle.board.specs.declared.plan.Plan.{Plan}
-use Rattle.board.specs.Wires.{block_at, component_at, wire_at, no_block, no_component, no_wire, leads, takes, inside_from, inside_to, apart, sound_wire}
+use Rattle.board.specs.Wires.{block_at, component_at, wire_at, no_block, no_component, no_wire, leads, takes, inside_from, inside_to, sound_wire}
 use Rattle.drawing.specs.Children.{Stands}
 
 -- the second list begins as the first
@@ -184,40 +184,27 @@ either false P xs ys p q = p
 -- the same, as a plan states it
 abbrev Stated : ℕ → ℕ → ℕ → List Block → List Component → List Wire → Type 0
 Stated nb nc nw bs cs ws =
-    (nb ≤ 32)
-    × ((nc ≤ 64)
-    × ((nw ≤ 256)
-    × (((b : ℕ) → ((block_at bs b).ins ≤ 8) × ((block_at bs b).outs ≤ 8))
-    × (((i : ℕ) → ((component_at cs i).ins ≤ 8) × ((component_at cs i).outs ≤ 8))
-    × (((b : ℕ) → (0 < b) × (b < nb) → (block_at bs b).parent < b)
-    × (((i : ℕ) → i < nc → (component_at cs i).block < nb)
-    × (((n : ℕ) → n < nw → sound_wire bs cs (wire_at ws n) ≡ true)
-    × (((n k : ℕ) → (n < k) × (k < nw) → wire_at ws n ≡ wire_at ws k → ⊥)
-    × Unit {0}))))))))
+    record {
+      few_blocks : nb ≤ 32;
+      few_components : nc ≤ 64;
+      few_wires : nw ≤ 256;
+      block_pins : (b : ℕ) → ((block_at bs b).ins ≤ 8) × ((block_at bs b).outs ≤ 8);
+      component_pins : (i : ℕ) → ((component_at cs i).ins ≤ 8) × ((component_at cs i).outs ≤ 8);
+      parents_first : (b : ℕ) → (0 < b) × (b < nb) → (block_at bs b).parent < b;
+      in_blocks : (i : ℕ) → i < nc → (component_at cs i).block < nb;
+      sound_wires : (n : ℕ) → n < nw → sound_wire bs cs (wire_at ws n) ≡ true;
+      wires_once : (n k : ℕ) → (n < k) × (k < nw) → wire_at ws n ≡ wire_at ws k → ⊥;
+    }
 
 pub stated : (nb nc nw : ℕ) (bs : List Block) (cs : List Component) (ws : List Wire) → nb ≡ length bs → nc ≡ length cs → nw ≡ length ws → Sound bs cs ws → Stated nb nc nw bs cs ws
-stated nb nc nw bs cs ws eb ec ew s = (
-  omega (arith, s.few_blocks),
-  (
-    omega (arith, s.few_components),
-    (
-      omega (arith, s.few_wires),
-      (
-        s.block_pins,
-        (
-          s.component_pins,
-          (
-            (λ b h. s.parents_first b h.0 (omega (arith, h.1))),
-            (
-              (λ i h. omega (arith, s.in_blocks i (omega arith))),
-              (
-                (λ n h. s.sound_wires n (omega arith)),
-                ((λ n k h. s.wires_once n k h.0 (omega (arith, h.1))), tt),
-              ),
-            ),
-          ),
-        ),
-      ),
-    ),
-  ),
-)
+stated nb nc nw bs cs ws eb ec ew s = record {
+  few_blocks = omega (arith, s.few_blocks);
+  few_components = omega (arith, s.few_components);
+  few_wires = omega (arith, s.few_wires);
+  block_pins = s.block_pins;
+  component_pins = s.component_pins;
+  parents_first = λ b h. s.parents_first b h.0 (omega (arith, h.1));
+  in_blocks = λ i h. omega (arith, s.in_blocks i (omega arith));
+  sound_wires = λ n h. s.sound_wires n (omega arith);
+  wires_once = λ n k h. s.wires_once n k h.0 (omega (arith, h.1));
+}

@@ -1,4 +1,4 @@
-use Rattle.std.proofs.Common.{◌≡◌, ◌<◌, ◌≤◌, ◌⊎◌, length, vec_items, sym, refl, ap, ◌∙◌, subst, inl, inr, ⊎_elim, arith}
+use Rattle.std.proofs.Common.{◌≤◌, ◌⊎◌, length, vec_items, subst, inr, ⊎_elim, arith}
 use Rattle.board.specs.declared.pins.Wire.{Wire}
 use Rattle.drawing.specs.Children.{end_pin}
 use Rattle.drawing.specs.Questions.{JoinAsked}

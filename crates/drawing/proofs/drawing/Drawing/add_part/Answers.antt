@@ -1,4 +1,4 @@
-use Rattle.std.proofs.Common.{◌≡◌, ◌<◌, Ok, Err, vec_items, vec_len, sym, ap, ◌∙◌, inl, inr, arith}
+use Rattle.std.proofs.Common.{Ok, Err, ap, ◌∙◌, inl, inr, arith}
 use Rattle.std.proofs.lemmas.Result.{err_from_is_err_and}
 use Rattle.drawing.specs.Calls.{sheet}
 use Rattle.drawing.specs.Lists.{lists}
@@ -42,4 +42,4 @@ pub invariant_of-self-2 : goal.invariant_of-self-2
 invariant_of-self-2 g c =
     let d = c.args.self.now in
     let lens = component_lens d.plan c.put_component.new.plan c.in_ok-component.component c.in_ok-put_component.ensures.puts_it_or_refuses in
-    (omega (arith, lens.1, c.push_reserved.ensures.len, c.reserve.ensures.len, d.a_start_for_each), ((λ b e. omega (arith, lens.0, d.open_is_there b e)), tt))
+    record { a_start_for_each = omega (arith, lens.1, c.push_reserved.ensures.len, c.reserve.ensures.len, d.a_start_for_each); open_is_there = λ b e. omega (arith, lens.0, d.open_is_there b e) }

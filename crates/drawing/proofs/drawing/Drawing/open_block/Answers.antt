@@ -1,7 +1,6 @@
-use Rattle.std.proofs.Common.{◌≡◌, ◌<◌, Ok, Err, vec_items, vec_len, sym, ap, ◌∙◌, inl, inr, arith}
+use Rattle.std.proofs.Common.{◌≡◌, Ok, Err, vec_items, sym, ap, ◌∙◌, inl, inr, arith}
 use Rattle.std.proofs.lemmas.Result.{err_from_is_err_and}
 use Rattle.drawing.specs.Calls.{sheet}
-use Rattle.drawing.specs.Lists.{lists}
 use Rattle.drawing.proofs.Added.{block_lens, short_kept}
 use Rattle.drawing.proofs.drawing.Drawing.open_block.Goals as goal
 
@@ -26,4 +25,4 @@ pub invariant_of-self-2 : goal.invariant_of-self-2
 invariant_of-self-2 g c =
     let d = c.args.self.now in
     let lens = block_lens d.plan c.put_block.new.plan c.in_ok-block.block c.in_ok-put_block.ensures.puts_it_or_refuses in
-    (d.a_start_for_each ∙ sym lens.1, ((λ b e. let same : c.len-number.result ≡ b = cc in omega (arith, same, lens.0, c.len-number.ensures)), tt))
+    record { a_start_for_each = d.a_start_for_each ∙ sym lens.1; open_is_there = λ b e. let same : c.len-number.result ≡ b = cc in omega (arith, same, lens.0, c.len-number.ensures) }

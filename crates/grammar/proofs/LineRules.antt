@@ -1,7 +1,6 @@
 -- The rules of lines, by their fields.
 use Rattle.std.proofs.Common.{◌≡◌, ℕ, ◌+◌, List, [], ◌∷◌, length, get_or, Ok, Err, Result, sym, refl, ap, ◌∙◌, subst, inl, inr, arith}
 use Rattle.names.specs.declared.name.Name.{Name}
-use Rattle.names.specs.Names.{name_text}
 use Rattle.drawing.specs.declared.ends.WireEnd.{WireEnd}
 use Rattle.grammar.specs.declared.fault.Verdict.{Verdict}
 use Rattle.grammar.specs.declared.statement.Statement.{Statement}
@@ -12,23 +11,24 @@ use Rattle.grammar.specs.declared.kinds.KindWord.TheVariants as word
 use Rattle.grammar.specs.declared.statement.Header.{Header}
 use Rattle.grammar.specs.declared.statement.PartKind.{PartKind}
 use Rattle.grammar.specs.declared.statement.PartKind.TheVariants as kind
+use Rattle.grammar.specs.Reading.{IsName}
 use Rattle.grammar.specs.Rules.{Form, Formed, first, numbers_of, BlockLine, PartLine, WireLine, EndLine, CountsLine, KindSays}
 use Rattle.grammar.specs.Statements.{letter_N, letter_B, letter_P, letter_W, letter_E}
 use Rattle.grammar.specs.Verdicts.{of_line}
 
 module _ (n : ℕ) (r : Result Statement Verdict) where
-  pub block_ins : (all rest : List (List ℕ)) (w f g : List ℕ) (name : Name) → all ≡ w ∷ f ∷ g ∷ rest → length all ≡ 4 → name_text name ≡ f → ((v : ℕ) → Numeral 0 8 v g → ⊥) →
+  pub block_ins : (all rest : List (List ℕ)) (w f g : List ℕ) (name : Name) → all ≡ w ∷ f ∷ g ∷ rest → length all ≡ 4 → IsName name f → ((v : ℕ) → Numeral 0 8 v g → ⊥) →
       r ≡ Err (of_line 4 n 3) → BlockLine all n r
   block_ins all rest w f g name e four named none v =
-      subst (λ fs. BlockLine fs n r) (sym e) (inr ((λ bad. bad (ap length (sym e) ∙ four)), inr ((λ no_name. no_name (name, named)), inl ((λ m. none m.0 m.1), v))))
+      subst (λ fs. BlockLine fs n r) (sym e) (inr ((λ bad. bad (ap length (sym e) ∙ four)), inr ((λ no_name. no_name (name, named.0, named.1)), inl ((λ m. none m.0 m.1), v))))
 
-  pub block_outs : (all rest : List (List ℕ)) (w f g h : List ℕ) (name : Name) (ins : ℕ) → all ≡ w ∷ f ∷ g ∷ h ∷ rest → length all ≡ 4 → name_text name ≡ f → Numeral 0 8 ins g → ((v : ℕ) → Numeral 0 8 v h → ⊥) →
+  pub block_outs : (all rest : List (List ℕ)) (w f g h : List ℕ) (name : Name) (ins : ℕ) → all ≡ w ∷ f ∷ g ∷ h ∷ rest → length all ≡ 4 → IsName name f → Numeral 0 8 ins g → ((v : ℕ) → Numeral 0 8 v h → ⊥) →
       r ≡ Err (of_line 4 n 4) → BlockLine all n r
   block_outs all rest w f g h name ins e four named is-ins none v =
       subst (λ fs. BlockLine fs n r) (sym e)
-      (inr ((λ bad. bad (ap length (sym e) ∙ four)), inr ((λ no_name. no_name (name, named)), inr ((λ no-ins. no-ins (ins, is-ins)), inl ((λ m. none m.0 m.1), v)))))
+      (inr ((λ bad. bad (ap length (sym e) ∙ four)), inr ((λ no_name. no_name (name, named.0, named.1)), inr ((λ no-ins. no-ins (ins, is-ins)), inl ((λ m. none m.0 m.1), v)))))
 
-  pub block_said : (all rest : List (List ℕ)) (w f g h : List ℕ) (name : Name) (ins outs : ℕ) → all ≡ w ∷ f ∷ g ∷ h ∷ rest → length all ≡ 4 → w ≡ letter_B → name_text name ≡ f → Numeral 0 8 ins g → Numeral 0 8 outs h →
+  pub block_said : (all rest : List (List ℕ)) (w f g h : List ℕ) (name : Name) (ins outs : ℕ) → all ≡ w ∷ f ∷ g ∷ h ∷ rest → length all ≡ 4 → w ≡ letter_B → IsName name f → Numeral 0 8 ins g → Numeral 0 8 outs h →
       r ≡ Ok (Open name ins outs) → BlockLine all n r
   block_said all (x ∷ rest) w f g h name ins outs e four letter named is-ins is-outs v = absurd (omega (arith, ap length e))
   block_said all [] w f g h name ins outs e four letter named is-ins is-outs v =
@@ -38,10 +38,10 @@ module _ (n : ℕ) (r : Result Statement Verdict) where
       (inr (
         (λ bad. bad (ap length (sym e) ∙ four)),
         inr (
-          (λ no_name. no_name (name, named)),
+          (λ no_name. no_name (name, named.0, named.1)),
           inr (
             (λ no-ins. no-ins (ins, is-ins)),
-            inr ((λ no-outs. no-outs (outs, is-outs)), (Open name ins outs, (is-ins.at_most, is-outs.at_most), (cc), v)),
+            inr ((λ no-outs. no-outs (outs, is-outs)), (Open name ins outs, (is-ins.at_most, is-outs.at_most, named.0), (let text = named.1 in cc), v)),
           ),
         ),
       ))
@@ -54,7 +54,7 @@ module _ (n : ℕ) (r : Result Statement Verdict) where
       subst (λ fs. WireLine fs n r) (sym e)
       (inr (
         (λ bad. bad (ap length (sym e) ∙ three)),
-        inr ((λ no-from. no-from (from, is-from)), inr ((λ no-to. no-to (to, is-to)), (Wire from to, (is-from.pin, is-to.pin), (cc), v))),
+        inr ((λ no-from. no-from (from, is-from)), inr ((λ no-to. no-to (to, is-to)), (Wire from to, (is-from.pin, is-to.pin, is-from.spelled, is-to.spelled), (cc), v))),
       ))
 
   pub end_said : (all : List (List ℕ)) → length all ≡ 1 → first all ≡ letter_E → r ≡ Ok Close → EndLine all n r
@@ -117,7 +117,7 @@ formed_maps (form ∷ forms) (f ∷ fs) k n r q on off errs goes (inr h) = inr (
 
 -- the kind word and the name are read, and then the numbers
 pub part_goes : (n : ℕ) (all rest : List (List ℕ)) (w f g : List ℕ) (name : Name) (k : KindWord) (r : Result PartKind Verdict) (q : Result Statement Verdict) →
-    all ≡ w ∷ f ∷ g ∷ rest → w ≡ letter_P → kind_word k ≡ get_or all 2 [] → length all ≡ 3 + length (numbers_of k) → name_text name ≡ f →
+    all ≡ w ∷ f ∷ g ∷ rest → w ≡ letter_P → kind_word k ≡ get_or all 2 [] → length all ≡ 3 + length (numbers_of k) → IsName name f →
     ((v : Verdict) → r ≡ Err v → q ≡ Err v) → ((x : PartKind) → r ≡ Ok x → q ≡ Ok (Part name x)) → KindSays k rest n r → PartLine all n q
 part_goes n all rest w f g name k r q e letter is-kind many named errs oks h =
     let third : kind_word k ≡ g = is-kind ∙ ap (λ fs. get_or fs 2 []) e in
@@ -133,9 +133,9 @@ part_goes n all rest w f g name k r q e letter is-kind many named errs oks h =
           inr (
             (λ bad. bad long),
             inr (
-              (λ none. none (name, named)),
+              (λ none. none (name, named.0, named.1)),
               formed_maps (numbers_of k) rest 4 n r q _ _ errs
-                  (λ says. (Part name says.0, says.1, (λ i. sym letter i ∷ named i ∷ (says.2 ∙ ap (λ t. t ∷ rest) third) i), oks says.0 says.3)) h,
+                  (λ says. (Part name says.0, (says.1, named.0), (λ i. sym letter i ∷ named.1 i ∷ (says.2 ∙ ap (λ t. t ∷ rest) third) i), oks says.0 says.3)) h,
             ),
           ),
         ),

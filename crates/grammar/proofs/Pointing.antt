@@ -64,4 +64,4 @@ pub no_end : (child : List ℕ) (k : ℕ) (text : List ℕ) → Pointed child k 
 unfolding before_point
 no_end child k text p no_hyphen no_name (Own l) h = no_hyphen (same_pointed child (45 ∷ []) k l text p (end_pointed (Own l) text h)).0
 no_end child k text p no_hyphen no_name (Child name l) h =
-    both_ways (well_named child) no_name (ap well_named (same_pointed child (name_text name) k l text p (end_pointed (Child name l) text h)).0 ∙ name.spelled)
+    both_ways (well_named child) no_name (ap well_named (same_pointed child (name_text name) k l text p (end_pointed (Child name l) text h)).0 ∙ h.spelled.well)

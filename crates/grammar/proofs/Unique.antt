@@ -2,14 +2,13 @@
 use Rattle.std.proofs.Common.{◌≡◌, ℕ, ◌+◌, ◌<◌, ◌≤◌, List, [], ◌∷◌, ◌++◌, get_or, drop, Ok, Err, decimal, Result, sym, refl, ap, ◌∙◌, subst, ap₂, inl, inr, arith}
 use Rattle.std.proofs.lemmas.Fmt.{decimal_injective}
 use Rattle.std.proofs.lemmas.Bool.{both_ways}
-use Rattle.names.specs.Names.{well_named}
-use Rattle.names.specs.Names.{name_text}
+use Rattle.names.specs.Names.{well_named, name_text, Spelled}
 use Rattle.names.specs.declared.name.Name.{Name}
 use Rattle.names.proofs.Same.{same_name}
 use Rattle.drawing.specs.Children.{end_pin}
 use Rattle.drawing.specs.declared.ends.WireEnd.{WireEnd}
 use Rattle.drawing.specs.declared.ends.WireEnd.TheVariants.{Own, Child}
-use Rattle.grammar.specs.Fields.{kind_word, end_text}
+use Rattle.grammar.specs.Fields.{kind_word, end_text, EndSpelled}
 use Rattle.grammar.specs.Pieces.{split}
 use Rattle.grammar.specs.Rules.{block_forms, wire_forms, count_forms, Heads, Kinded, Asks, a_name, first, numbers_of, Says, BlockLine, PartLine, WireLine, EndLine, ByLetter, ItemLine, BoardLine, HeaderLine}
 use Rattle.grammar.specs.Statements.{letter_B, letter_P, letter_W, letter_E, kind_fields, fields_of, header_fields, KindInRange, InRange, HeaderInRange}
@@ -36,19 +35,19 @@ at i e = ap (λ t. get_or t i []) e
 same_number : (m n : ℕ) → m ≤ 65535 → n ≤ 65535 → decimal m ≡ decimal n → m ≡ n
 same_number m n l h e = decimal_injective m n (omega arith) (omega arith) e
 
-no_hyphen : (name : Name) → 45 ∷ [] ≡ name_text name → ⊥
-no_hyphen name e = both_ways (well_named (45 ∷ [])) refl (ap well_named e ∙ name.spelled)
+no_hyphen : (name : Name) → Spelled name → 45 ∷ [] ≡ name_text name → ⊥
+no_hyphen name s e = both_ways (well_named (45 ∷ [])) refl (ap well_named e ∙ s.well)
 
 same_parts : (a b : List ℕ) (k l : ℕ) → k < 8 → l < 8 → a ++ 46 ∷ (48 + k) ∷ [] ≡ b ++ 46 ∷ (48 + l) ∷ [] → (a ≡ b) × (k ≡ l)
 same_parts a b k l g h e = same_pointed a b k l (b ++ 46 ∷ (48 + l) ∷ []) record { pin = g; written = e } record { pin = h; written = refl }
 
-pub same_end : (d e : WireEnd) → end_pin d < 8 → end_pin e < 8 → end_text d ≡ end_text e → d ≡ e
-same_end (Own k) (Own l) g h e = ap Own (same_parts (45 ∷ []) (45 ∷ []) k l g h e).1
-same_end (Own k) (Child name l) g h e = absurd (no_hyphen name (same_parts (45 ∷ []) (name_text name) k l g h e).0)
-same_end (Child name k) (Own l) g h e = absurd (no_hyphen name (sym (same_parts (name_text name) (45 ∷ []) k l g h e).0))
-same_end (Child name k) (Child other l) g h e =
+pub same_end : (d e : WireEnd) → end_pin d < 8 → end_pin e < 8 → EndSpelled d → EndSpelled e → end_text d ≡ end_text e → d ≡ e
+same_end (Own k) (Own l) g h s t e = ap Own (same_parts (45 ∷ []) (45 ∷ []) k l g h e).1
+same_end (Own k) (Child name l) g h s t e = absurd (no_hyphen name t (same_parts (45 ∷ []) (name_text name) k l g h e).0)
+same_end (Child name k) (Own l) g h s t e = absurd (no_hyphen name s (sym (same_parts (name_text name) (45 ∷ []) k l g h e).0))
+same_end (Child name k) (Child other l) g h s t e =
     let same = same_parts (name_text name) (name_text other) k l g h e in
-    ap₂ Child (same_name name other same.0) same.1
+    ap₂ Child (same_name name other s t same.0) same.1
 
 pub same_word : (v w : KindWord) → kind_word v ≡ kind_word w → v ≡ w
 same_word word.Gen word.Gen e = refl
@@ -78,7 +77,7 @@ same_kind (kind.Line d) (kind.Line c) g h e = ap kind.Line (same_number d c (ome
 
 pub same_statement : (s t : Statement) → InRange s → InRange t → fields_of s ≡ fields_of t → s ≡ t
 same_statement (Open a i o) (Open b j p) g h e =
-    let name : a ≡ b = same_name a b (at 1 e) in
+    let name : a ≡ b = same_name a b g.2 h.2 (at 1 e) in
     let ins : i ≡ j = same_number i j (omega arith) (omega arith) (at 2 e) in
     let outs : o ≡ p = same_number o p (omega arith) (omega arith) (at 3 e) in
     cc
@@ -86,12 +85,12 @@ same_statement (Open a i o) (Part b k) g h e = absurd (omega (arith, ap letter_o
 same_statement (Open a i o) (Wire c d) g h e = absurd (omega (arith, ap letter_of e))
 same_statement (Open a i o) Close g h e = absurd (omega (arith, ap letter_of e))
 same_statement (Part a k) (Open b j p) g h e = absurd (omega (arith, ap letter_of e))
-same_statement (Part a k) (Part b l) g h e = ap₂ Part (same_name a b (at 1 e)) (same_kind k l g h (ap (drop 2) e))
+same_statement (Part a k) (Part b l) g h e = ap₂ Part (same_name a b g.1 h.1 (at 1 e)) (same_kind k l g.0 h.0 (ap (drop 2) e))
 same_statement (Part a k) (Wire c d) g h e = absurd (omega (arith, ap letter_of e))
 same_statement (Part a k) Close g h e = absurd (omega (arith, ap letter_of e))
 same_statement (Wire a b) (Open c j p) g h e = absurd (omega (arith, ap letter_of e))
 same_statement (Wire a b) (Part c k) g h e = absurd (omega (arith, ap letter_of e))
-same_statement (Wire a b) (Wire c d) g h e = ap₂ Wire (same_end a c g.0 h.0 (at 1 e)) (same_end b d g.1 h.1 (at 2 e))
+same_statement (Wire a b) (Wire c d) g h e = ap₂ Wire (same_end a c g.0 h.0 g.2 h.2 (at 1 e)) (same_end b d g.1 h.1 g.3 h.3 (at 2 e))
 same_statement (Wire a b) Close g h e = absurd (omega (arith, ap letter_of e))
 same_statement Close (Open b j p) g h e = absurd (omega (arith, ap letter_of e))
 same_statement Close (Part b k) g h e = absurd (omega (arith, ap letter_of e))

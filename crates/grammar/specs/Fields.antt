@@ -1,6 +1,6 @@
 -- What a field writes: a number, a kind word, a name or a wire end.
 use Rattle.std.specs.Prelude.{◌≡◌, ℕ, ◌+◌, ◌<◌, ◌≤◌, List, [], ◌∷◌, ◌++◌, decimal}
-use Rattle.names.specs.Names.{name_text}
+use Rattle.names.specs.Names.{name_text, Spelled}
 use Rattle.drawing.specs.declared.ends.WireEnd.{WireEnd}
 use Rattle.drawing.specs.declared.ends.WireEnd.TheVariants.{Own, Child}
 use Rattle.drawing.specs.Children.{end_pin}
@@ -29,7 +29,13 @@ pub record Pointed (child : List ℕ) (k : ℕ) (text : List ℕ) : Type 0 where
   pub pin : k < 8
   pub written : child ++ 46 ∷ (48 + k) ∷ [] ≡ text
 
+-- the name of a child is made of a text alone
+abbrev pub EndSpelled : WireEnd → Type 0
+EndSpelled (Own k) = Unit {0}
+EndSpelled (Child name k) = Spelled name
+
 -- the text writes the wire end, whose pin is 0 to 7
 pub record EndOf (e : WireEnd) (text : List ℕ) : Type 0 where
+  pub spelled : EndSpelled e
   pub pin : end_pin e < 8
   pub written : end_text e ≡ text

@@ -2,7 +2,7 @@
 use Rattle.std.specs.Prelude.{◌≡◌, ℕ, List, [], ◌∷◌, Err, Result, MatchResult}
 use Rattle.std.specs.Borrow.{Bor}
 use Rattle.names.specs.declared.name.Name.{Name}
-use Rattle.names.specs.Names.{name_text}
+use Rattle.names.specs.Names.{name_text, Spelled}
 use Rattle.drawing.specs.declared.ends.WireEnd.{WireEnd}
 use Rattle.grammar.specs.declared.fault.LineFault.{LineFault}
 use Rattle.grammar.specs.declared.fault.LineFault.TheVariants.{BadField}
@@ -21,7 +21,7 @@ abbrev pub Reads : {T : Type 0} → (T → List ℕ → Type 0) → List ℕ →
 Reads {T} Writes text line k r = MatchResult r (λ x. Writes x text) (λ e. ((x : T) → Writes x text → ⊥) × (e ≡ BadField line k))
 
 abbrev pub IsName : Name → List ℕ → Type 0
-IsName n text = name_text n ≡ text
+IsName n text = Spelled n × (name_text n ≡ text)
 
 abbrev pub NameIn : Field → Result Name LineFault → Type 0
 NameIn (field.Name t p) r = Reads IsName t.now p.line p.field r

@@ -1,7 +1,7 @@
 -- The questions that are asked of a line, in their order.
 use Rattle.std.specs.Prelude.{◌≡◌, ℕ, ◌+◌, ◌<◌, ◌⊎◌, List, [], ◌∷◌, length, drop, Ok, Err, Result, ◌≢◌, slice_index_or}
 use Rattle.names.specs.declared.name.Name.{Name}
-use Rattle.names.specs.Names.{name_text}
+use Rattle.names.specs.Names.{name_text, Spelled}
 use Rattle.drawing.specs.declared.ends.WireEnd.{WireEnd}
 use Rattle.grammar.specs.declared.fault.Verdict.{Verdict}
 use Rattle.grammar.specs.declared.kinds.KindWord.{KindWord}
@@ -26,7 +26,7 @@ pub data Form : Type 0 where
   an_end : Form
 
 abbrev pub Meets : Form → List ℕ → Type 0
-Meets a_name f = (n : Name) × (name_text n ≡ f)
+Meets a_name f = (n : Name) × Spelled n × (name_text n ≡ f)
 Meets (a_number low high) f = (v : ℕ) × Numeral low high v f
 Meets an_end f = (e : WireEnd) × EndOf e f
 

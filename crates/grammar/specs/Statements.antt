@@ -1,9 +1,9 @@
 -- The written form of what a line says: its fields, with single spaces between them.
 use Rattle.std.specs.Prelude.{ℕ, ◌<◌, ◌≤◌, List, [], ◌∷◌, decimal}
 use Rattle.std.specs.List.{join_with_byte}
-use Rattle.names.specs.Names.{name_text}
+use Rattle.names.specs.Names.{name_text, Spelled}
 use Rattle.drawing.specs.Children.{end_pin}
-use Rattle.grammar.specs.Fields.{kind_word, end_text}
+use Rattle.grammar.specs.Fields.{kind_word, end_text, EndSpelled}
 use Rattle.grammar.specs.declared.kinds.KindWord.TheVariants as word
 use Rattle.grammar.specs.declared.statement.Header.{Header}
 use Rattle.grammar.specs.declared.statement.PartKind.{PartKind}
@@ -52,10 +52,11 @@ KindInRange (kind.Gen p v s) = (1 ≤ p) × (p ≤ 65535) × (v ≤ 255) × (s �
 KindInRange (kind.Uart b) = (1 ≤ b) × (b ≤ 65535)
 KindInRange (kind.Line d) = d ≤ 65535
 
+-- and names that are made of a text alone
 abbrev pub InRange : Statement → Type 0
-InRange (Open name ins outs) = (ins ≤ 8) × (outs ≤ 8)
-InRange (Part name k) = KindInRange k
-InRange (Wire from to) = (end_pin from < 8) × (end_pin to < 8)
+InRange (Open name ins outs) = (ins ≤ 8) × (outs ≤ 8) × Spelled name
+InRange (Part name k) = KindInRange k × Spelled name
+InRange (Wire from to) = (end_pin from < 8) × (end_pin to < 8) × EndSpelled from × EndSpelled to
 InRange Close = Unit {0}
 
 abbrev pub HeaderInRange : Header → Type 0

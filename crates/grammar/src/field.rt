@@ -1,6 +1,6 @@
 // The fields of a line, read one by one.
 ghost use Rattle.std.specs.Prelude.{◌≡◌, ℕ, ◌<◌, List, ◌∷◌, length};
-ghost use Rattle.std.specs.Borrow.{MutBor};
+ghost use Rattle.std.specs.Borrow.{Bor};
 ghost use Rattle.grammar.specs.Pieces.{split, left};
 ghost use Rattle.grammar.specs.Reading.{Taken, NameIn, NumberIn, EndIn, ReadsName, ReadsNumber, ReadsEnd, labelled};
 
@@ -116,7 +116,7 @@ impl<'a> Fields<'a> {
 
     // The next field, as what is wanted there.
     fn next_field(&mut self, want: Want, place: Place) -> Field<'a>
-        ensures takes_one { (t : MutBor (List ℕ)) × (result ≡ labelled want t place) × Taken (left 32 self.old.rest) t.now (left 32 self.new.rest) }
+        ensures takes_one { (t : Bor (List ℕ)) × (result ≡ labelled want t place) × Taken (left 32 self.old.rest) t.now (left 32 self.new.rest) }
     {
         let text = self.next_word();
         match want {

@@ -1,4 +1,4 @@
-use Rattle.std.proofs.Common.{arith, rules}
+use Rattle.std.proofs.Common.{rules}
 use Rattle.grammar.proofs.Counting.{more, small, shape, no_digit, done}
 use Rattle.grammar.proofs.numbers.natural.Goals as goal
 

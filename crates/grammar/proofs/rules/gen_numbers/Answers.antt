@@ -1,8 +1,7 @@
-use Rattle.std.proofs.Common.{◌≡◌, ◌+◌, ◌∷◌, length, refl, ap, arith, rules}
-use Rattle.grammar.specs.Fields.{Numeral, EndOf}
-use Rattle.grammar.specs.Pieces.{split, left}
-use Rattle.grammar.specs.Rules.{first}
-use Rattle.grammar.proofs.Forms.{begun, step, fewer}
+use Rattle.std.proofs.Common.{arith}
+use Rattle.grammar.specs.Fields.{Numeral}
+use Rattle.grammar.specs.Pieces.{left}
+use Rattle.grammar.proofs.Forms.{step, fewer}
 use Rattle.grammar.proofs.LineRules.{gen_said}
 use Rattle.grammar.proofs.rules.gen_numbers.Goals as goal
 

@@ -1,10 +1,10 @@
 -- Pieces and lines that are passed one by one.
-use Rattle.std.proofs.Common.{◌≡◌, ℕ, zero, suc, ◌+◌, ◌<◌, ◌≤◌, List, [], ◌∷◌, ◌++◌, length, Some, None, Option, sym, refl, ap, ◌∙◌, subst, inl, inr, arith, Bor}
+use Rattle.std.proofs.Common.{◌≡◌, ℕ, ◌+◌, ◌<◌, ◌≤◌, List, [], ◌∷◌, ◌++◌, length, Some, None, Option, sym, ap, ◌∙◌, arith, Bor}
 use Rattle.std.proofs.lemmas.List.{append_assoc, length-append}
 use Rattle.grammar.specs.Pieces.{split, left, more, Parts}
 use Rattle.script.specs.Calls.{Says}
-use Rattle.script.specs.Scripts.{AllSay, Script, Stuck}
-use Rattle.script.specs.Spots.{bytes, Stands}
+use Rattle.script.specs.Scripts.{AllSay, Script}
+use Rattle.script.specs.Spots.{bytes}
 use Rattle.script.specs.declared.call.Call.{Call}
 
 -- i pieces are passed: this one is at hand, and the rest follows

@@ -1,5 +1,5 @@
 -- Calls as the lines of a call file say them: a word, and its fields.
-use Rattle.std.specs.Prelude.{◌≡◌, ℕ, ◌+◌, ◌/◌, ◌%◌, ◌≤◌, cond, List, [], ◌∷◌, Some, decimal, Option, nat_lt}
+use Rattle.std.specs.Prelude.{◌≡◌, ℕ, ◌+◌, ◌/◌, ◌%◌, ◌≤◌, cond, List, [], ◌∷◌, Some, Option, nat_lt}
 use Rattle.grammar.specs.Fields.{Numeral}
 use Rattle.script.specs.Words.{call_word}
 use Rattle.script.specs.declared.call.Call.{Call}

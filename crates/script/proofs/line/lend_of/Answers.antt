@@ -1,4 +1,4 @@
-use Rattle.std.proofs.Common.{refl, arith, rules}
+use Rattle.std.proofs.Common.{refl, arith}
 use Rattle.script.proofs.Lines.{one_number, no_lend}
 use Rattle.script.proofs.line.lend_of.Goals as goal
 

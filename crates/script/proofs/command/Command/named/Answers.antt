@@ -4,14 +4,14 @@ use Rattle.script.specs.Words.{command_word}
 use Rattle.script.specs.declared.command.Command.TheVariants.{Run, Play, Check, Help}
 use Rattle.script.proofs.command.Command.named.Goals as goal
 
-pub returns-in-114 : goal.returns-in-114
-returns-in-114 c = record { names_it_or_refuses = sym (text_from_reads c.args.word.now (command_word Run) (search rules) (search rules)) }
+pub returns-in-run : goal.returns-in-run
+returns-in-run c = record { names_it_or_refuses = sym (text_from_reads c.args.word.now (command_word Run) (search rules) (search rules)) }
 
-pub returns-in-112 : goal.returns-in-112
-returns-in-112 c = record { names_it_or_refuses = sym (text_from_reads c.args.word.now (command_word Play) (search rules) (search rules)) }
+pub returns-in-play : goal.returns-in-play
+returns-in-play c = record { names_it_or_refuses = sym (text_from_reads c.args.word.now (command_word Play) (search rules) (search rules)) }
 
-pub returns-in-99 : goal.returns-in-99
-returns-in-99 c = record { names_it_or_refuses = sym (text_from_reads c.args.word.now (command_word Check) (search rules) (search rules)) }
+pub returns-in-check : goal.returns-in-check
+returns-in-check c = record { names_it_or_refuses = sym (text_from_reads c.args.word.now (command_word Check) (search rules) (search rules)) }
 
 pub returns-in-45 : goal.returns-in-45
 returns-in-45 c = record { names_it_or_refuses = sym (text_from_reads c.args.word.now (command_word Help) (search rules) (search rules)) }

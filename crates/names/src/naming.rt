@@ -18,6 +18,7 @@ fn is_letter_or_digit(b: u8) -> bool
 
 impl Name {
     // The name that a text spells, or nothing where it is no name.
+    #[tactic(auto, using(crate::proofs::Spelling::bad))]
     pub fn new(text: &[u8]) -> Option<Name>
         ensures spells_it_or_refuses { MatchOption result (well_named text.now ≡ false) (λ n. (well_named text.now ≡ true) × (name_text n ≡ text.now)) }
         ensures holds_the_text_alone { IfSome result Spelled }

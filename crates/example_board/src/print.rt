@@ -1,5 +1,6 @@
 // What is printed, in words.
 use crate::trouble::Trouble;
+use anyhow::anyhow;
 use board::nested::Board;
 use clock::dense::Dense;
 use coupling::coupling::{Coupling, Source};
@@ -118,12 +119,12 @@ pub fn report_rows(
 
 pub fn complaint(trouble: Trouble) -> anyhow::Error {
     match trouble {
-        Trouble::Name => "a name is not well formed".into(),
-        Trouble::Part => "a part's numbers are out of range".into(),
-        Trouble::Drawing(_) => "the drawing was refused".into(),
-        Trouble::Open => "a block is still open".into(),
-        Trouble::Memory => "there is no memory left".into(),
-        Trouble::Call(_) => "a call was refused".into(),
-        Trouble::Print => "the output could not be written".into(),
+        Trouble::Name => anyhow!("a name is not well formed"),
+        Trouble::Part => anyhow!("a part's numbers are out of range"),
+        Trouble::Drawing(_) => anyhow!("the drawing was refused"),
+        Trouble::Open => anyhow!("a block is still open"),
+        Trouble::Memory => anyhow!("there is no memory left"),
+        Trouble::Call(_) => anyhow!("a call was refused"),
+        Trouble::Print => anyhow!("the output could not be written"),
     }
 }

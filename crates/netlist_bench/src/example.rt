@@ -22,8 +22,8 @@ fn parts_are_numbered_as_written(rt: HostRuntime) -> Result<(), Fail> {
     assert_eq!(rt; board.name(0), Name::new(b"a"));
     assert_eq!(rt; board.name(1), Name::new(b"g"));
     assert_eq!(rt; board.name(2), None);
-    assert!(rt; board.path(rt.alloc(), 0)?.as_slice() == b"io/a");
-    assert!(rt; board.path(rt.alloc(), 1)?.as_slice() == b"g");
+    assert!(rt; board.path(rt.alloc(), 0)?.as_slice() == b"io/a".as_slice());
+    assert!(rt; board.path(rt.alloc(), 1)?.as_slice() == b"g".as_slice());
     Ok(())
 }
 
@@ -65,6 +65,6 @@ fn wires_stand_as_written(rt: HostRuntime) -> Result<(), Fail> {
             to: Pin::BlockOut { block: 0, pin: 0 },
         },
     ];
-    assert!(rt; board.plan.wires.as_slice() == &wires);
+    assert!(rt; board.plan.wires.as_slice() == wires.as_slice());
     Ok(())
 }

@@ -1,4 +1,5 @@
 // What can go wrong.
+use anyhow::anyhow;
 use std::alloc::{AllocError, AllocFailed};
 use std::io;
 
@@ -32,9 +33,9 @@ impl From<io::Error> for Trouble {
 
 pub fn complaint(trouble: Trouble) -> anyhow::Error {
     match trouble {
-        Trouble::Case => "a line is not NAME, a space and the text of a case".into(),
-        Trouble::Escape => "the text of a case is not in the escaped form".into(),
-        Trouble::Memory => "there is no memory left".into(),
-        Trouble::Stream => "the input could not be read, or the output not written".into(),
+        Trouble::Case => anyhow!("a line is not NAME, a space and the text of a case"),
+        Trouble::Escape => anyhow!("the text of a case is not in the escaped form"),
+        Trouble::Memory => anyhow!("there is no memory left"),
+        Trouble::Stream => anyhow!("the input could not be read, or the output not written"),
     }
 }

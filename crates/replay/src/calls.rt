@@ -53,37 +53,37 @@ impl<C> Answer<C> {
     }
 }
 
-pub(crate) fn done<C>(res: Result<(), Refusal>) -> Answer<C>
-    ensures is_the_answer { result ≡ answered (λ _. answer.Done) res }
+pub(crate) fn done<C>(outcome: Result<(), Refusal>) -> Answer<C>
+    ensures is_the_answer { result ≡ answered (λ _. answer.Done) outcome }
 {
-    match res {
+    match outcome {
         Ok(()) => Answer::Done,
         Err(refusal) => Answer::Refused(refusal),
     }
 }
 
-pub(crate) fn earliest<C>(res: Result<Option<C>, Refusal>) -> Answer<C>
-    ensures is_the_answer { result ≡ answered answer.Earliest res }
+pub(crate) fn earliest<C>(outcome: Result<Option<C>, Refusal>) -> Answer<C>
+    ensures is_the_answer { result ≡ answered answer.Earliest outcome }
 {
-    match res {
+    match outcome {
         Ok(moment) => Answer::Earliest(moment),
         Err(refusal) => Answer::Refused(refusal),
     }
 }
 
-pub(crate) fn fired<C>(res: Result<Firing<C>, Refusal>) -> Answer<C>
-    ensures is_the_answer { result ≡ answered answer.Fired res }
+pub(crate) fn fired<C>(outcome: Result<Firing<C>, Refusal>) -> Answer<C>
+    ensures is_the_answer { result ≡ answered answer.Fired outcome }
 {
-    match res {
+    match outcome {
         Ok(firing) => Answer::Fired(firing),
         Err(refusal) => Answer::Refused(refusal),
     }
 }
 
-pub(crate) fn ran<C>(res: Result<Ran, Refusal>) -> Answer<C>
-    ensures is_the_answer { result ≡ answered answer.Ran res }
+pub(crate) fn ran<C>(outcome: Result<Ran, Refusal>) -> Answer<C>
+    ensures is_the_answer { result ≡ answered answer.Ran outcome }
 {
-    match res {
+    match outcome {
         Ok(ran) => Answer::Ran(ran),
         Err(refusal) => Answer::Refused(refusal),
     }

@@ -4,18 +4,7 @@ ghost use Rattle.clock.specs.Plain.{plain};
 ghost use Rattle.clock.specs.PlainLaws.{plain_laws};
 
 use crate::clock::Clock;
-use crate::ticks::{LARGEST, Ticks};
-
-const CEILING: u64 = 4_294_967_295;
-
-// So many ticks, or the largest value held.
-fn saturated(count: u64) -> Ticks
-    ensures value { result ≡ Rattle.clock.specs.Plain.ticks count }
-{
-    Ticks {
-        count: count.min(LARGEST),
-    }
-}
+use crate::ticks::Ticks;
 
 impl Clock for Ticks {
     ghost time = { plain };
@@ -23,26 +12,30 @@ impl Clock for Ticks {
     ghost lawful = { plain_laws };
 
     fn zero() -> Ticks {
-        saturated(0)
+        Ticks { count: 0 }
     }
 
     fn wait(ticks: u32) -> Ticks {
-        saturated(u64::from(ticks))
+        Ticks {
+            count: u64::from(ticks),
+        }
     }
 
     fn not_after(self, other: Ticks) -> bool {
-        self.count <= other.count
+        self <= other
     }
 
     fn plus(self, span: Ticks) -> Ticks {
-        saturated(self.count + span.count)
+        Ticks::new(self.count + span.count).unwrap_or(Ticks::LARGEST)
     }
 
     fn gap_to(self, later: Ticks) -> Ticks {
-        saturated(later.count.saturating_sub(self.count))
+        Ticks {
+            count: later.count.saturating_sub(self.count),
+        }
     }
 
     fn within_ceiling(self) -> bool {
-        self.count <= CEILING
+        self <= Ticks::CEILING
     }
 }

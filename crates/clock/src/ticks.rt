@@ -1,9 +1,7 @@
 ghost use Rattle.std.specs.Prelude.{◌≡◌, ◌<◌, ◌≤◌, MatchOption};
 
-pub(crate) const LARGEST: u64 = 8_589_934_590;
-
 // A value of the plain clock: a whole number of ticks.
-#[derive(Clone, Copy, PartialEq, Eq, Debug)]
+#[derive(Clone, Copy, PartialEq, Eq, PartialOrd, Ord, Debug)]
 pub struct Ticks {
     pub count: u64,
     // no value beyond what is held can exist
@@ -11,11 +9,21 @@ pub struct Ticks {
 }
 
 impl Ticks {
+    // the last moment within the ceiling
+    pub const CEILING: Ticks = Ticks {
+        count: 4_294_967_295,
+    };
+
+    // the largest value held
+    pub const LARGEST: Ticks = Ticks {
+        count: 8_589_934_590,
+    };
+
     // So many ticks, or nothing where the clock cannot hold them.
     pub fn new(count: u64) -> Option<Ticks>
         ensures holds_it_or_refuses { MatchOption result (8589934590 < count) (λ t. t.count ≡ count) }
     {
-        if count > LARGEST {
+        if count > Ticks::LARGEST.count {
             return None;
         }
         Some(Ticks { count })

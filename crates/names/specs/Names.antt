@@ -1,5 +1,6 @@
 -- Names of blocks and parts: 1 to 8 letters a to z and digits, a letter first.
-use Rattle.std.specs.Prelude.{◌≡◌, ℕ, ◌-◌, Bool, true, ◌&&◌, ◌||◌, List, [], ◌∷◌, length, take, drop, replicate, nat_le, nat_lt, slice_index}
+use Rattle.std.specs.Prelude.{◌≡◌, ℕ, ◌-◌, Bool, true, ◌&&◌, ◌||◌, List, length, take, drop, replicate, nat_le, nat_lt, slice_index}
+use Rattle.std.specs.List.{list_all}
 use Rattle.names.specs.declared.name.Name.{Name}
 
 abbrev pub letter : ℕ → Bool
@@ -9,8 +10,7 @@ abbrev pub letter_or_digit : ℕ → Bool
 letter_or_digit b = letter b || (nat_le 48 b && nat_le b 57)
 
 abbrev pub all_letters_or_digits : List ℕ → Bool
-all_letters_or_digits [] = true
-all_letters_or_digits (b ∷ bs) = letter_or_digit b && all_letters_or_digits bs
+all_letters_or_digits text = list_all letter_or_digit text
 
 abbrev pub well_named : List ℕ → Bool
 well_named text = nat_lt 0 (length text) && nat_le (length text) 8 && letter (slice_index text 0) && all_letters_or_digits text

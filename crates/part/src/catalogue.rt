@@ -9,13 +9,14 @@ use crate::part::{Output, Part};
 use crate::uart::Uart;
 use clock::clock::Clock;
 
-#[derive(Clone, Copy)]
+#[derive(Clone, Copy, PartialEq, Eq, Debug)]
 pub enum Catalogue<C> {
     Gen(Gen<C>),
     Uart(Uart<C>),
     Line(Line<C>),
 }
 
+// kept: a match in each method, since a part is Copy and a `dyn Part` is not
 impl<C: Clock> Part<C> for Catalogue<C> {
     ghost kind = { catalogue C.Clock.time };
 

@@ -6,7 +6,7 @@ ghost use Rattle.std.proofs.Common.{rules};
 use crate::part::{Output, Part};
 use clock::clock::Clock;
 
-#[derive(Clone, Copy)]
+#[derive(Clone, Copy, PartialEq, Eq, Debug)]
 pub struct Gen<C> {
     pub period: u16,
     pub value: u8,
@@ -23,12 +23,11 @@ impl<C: Clock> Gen<C> {
         if period == 0 {
             return None;
         }
-        let left = C::wait(u32::from(period));
         Some(Gen {
             period,
             value,
             step,
-            left,
+            left: C::wait(u32::from(period)),
         })
     }
 }

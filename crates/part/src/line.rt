@@ -6,7 +6,7 @@ ghost use Rattle.std.proofs.Common.{rules};
 use crate::part::{Output, Part};
 use clock::clock::Clock;
 
-#[derive(Clone, Copy)]
+#[derive(Clone, Copy, PartialEq, Eq, Debug)]
 pub struct Line<C> {
     pub delay: u16,
     pub value: u8,
@@ -36,8 +36,7 @@ impl<C: Clock> Part<C> for Line<C> {
     ghost rules = { Prim.search rules };
 
     fn advance(&self) -> Option<C> {
-        let left = self.left;
-        left
+        self.left
     }
 
     fn output(&self) -> Output {

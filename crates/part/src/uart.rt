@@ -1,12 +1,12 @@
 // The UART: sends the bytes it is given one after another, holds one, and tells how many it lost.
 ghost use Rattle.std.specs.Prelude.{◌≡◌, MatchOption};
-ghost use Rattle.part.specs.Uart.{serial, Transmits, uart_starts, next, takes, happens};
+ghost use Rattle.part.specs.Uart.{serial, Transmits, uart_starts, next, takes};
 ghost use Rattle.std.proofs.Common.{rules};
 
 use crate::part::{Output, Part};
 use clock::clock::Clock;
 
-#[derive(Clone, Copy)]
+#[derive(Clone, Copy, PartialEq, Eq, Debug)]
 pub enum Phase<C> {
     Idle,
     // the byte on the wire, and the span left until it is sent
@@ -15,20 +15,13 @@ pub enum Phase<C> {
     Telling { left: C },
 }
 
-#[derive(Clone, Copy)]
+#[derive(Clone, Copy, PartialEq, Eq, Debug)]
 pub struct Uart<C> {
     pub baud: u16,
     pub phase: Phase<C>,
     // the holding place
     pub held: Option<u8>,
     pub lost: u8,
-}
-
-// What can happen to it.
-#[derive(Clone, Copy)]
-enum Event<C> {
-    Fires,
-    Byte { elapsed: C, byte: u8 },
 }
 
 impl<C: Clock> Uart<C> {
@@ -47,9 +40,9 @@ impl<C: Clock> Uart<C> {
         })
     }
 
-    // The time that a byte takes: ten bits.
-    fn sending(self, byte: u8) -> Phase<C>
-        ensures value { result ≡ Rattle.part.specs.Uart.sending C.Clock.time self.baud byte }
+    // A byte on the wire: it takes ten bits.
+    fn sending(&self, byte: u8) -> Phase<C>
+        ensures value { result ≡ Rattle.part.specs.Uart.sending C.Clock.time self.now.baud byte }
     {
         Phase::Sending {
             byte,
@@ -58,68 +51,21 @@ impl<C: Clock> Uart<C> {
     }
 
     // A held byte is sent next; else it is idle.
-    fn next(self) -> Uart<C>
-        ensures value { result ≡ next C.Clock.time self.baud self.held }
+    fn next(&mut self)
+        ensures value { self.new ≡ next C.Clock.time self.old.baud self.old.held }
     {
-        let phase = match self.held {
-            Some(byte) => self.sending(byte),
-            None => Phase::Idle,
-        };
-        Uart {
-            baud: self.baud,
-            phase,
-            held: None,
-            lost: 0,
-        }
+        self.phase = self.held.map_or(Phase::Idle, |byte| self.sending(byte));
+        self.held = None;
+        self.lost = 0;
     }
 
     // A byte that comes while another is on the wire: it is held, or it is lost.
-    fn takes(self, phase: Phase<C>, byte: u8) -> Uart<C>
-        ensures value { result ≡ takes self.baud phase self.held self.lost byte }
+    fn take(&mut self, byte: u8)
+        ensures value { self.new ≡ takes self.old.baud self.old.phase self.old.held self.old.lost byte }
     {
         match self.held {
-            None => Uart {
-                baud: self.baud,
-                phase,
-                held: Some(byte),
-                lost: self.lost,
-            },
-            Some(first) => Uart {
-                baud: self.baud,
-                phase,
-                held: Some(first),
-                lost: self.lost.saturating_add(1),
-            },
-        }
-    }
-
-    fn after(self, event: Event<C>) -> Uart<C>
-        ensures value { result ≡ happens C.Clock.time self event }
-    {
-        match (self.phase, event) {
-            (Phase::Idle, Event::Fires) => self,
-            (Phase::Idle, Event::Byte { elapsed: _, byte }) => Uart {
-                baud: self.baud,
-                phase: self.sending(byte),
-                held: self.held,
-                lost: self.lost,
-            },
-            (Phase::Sending { byte: _, left: _ }, Event::Fires) if self.lost > 0 => Uart {
-                baud: self.baud,
-                phase: Phase::Telling { left: C::wait(0) },
-                held: self.held,
-                lost: self.lost,
-            },
-            (Phase::Sending { byte: _, left: _ }, Event::Fires) => self.next(),
-            (Phase::Telling { left: _ }, Event::Fires) => self.next(),
-            (Phase::Sending { byte: sent, left }, Event::Byte { elapsed, byte }) => {
-                let left = elapsed.gap_to(left);
-                self.takes(Phase::Sending { byte: sent, left }, byte)
-            }
-            (Phase::Telling { left }, Event::Byte { elapsed, byte }) => {
-                let left = elapsed.gap_to(left);
-                self.takes(Phase::Telling { left }, byte)
-            }
+            None => self.held = Some(byte),
+            Some(_) => self.lost = self.lost.saturating_add(1),
         }
     }
 }
@@ -134,19 +80,18 @@ impl<C: Clock> Part<C> for Uart<C> {
     fn advance(&self) -> Option<C> {
         match self.phase {
             Phase::Idle => None,
-            Phase::Sending { byte: _, left } => Some(left),
-            Phase::Telling { left } => Some(left),
+            Phase::Sending { left, .. } | Phase::Telling { left } => Some(left),
         }
     }
 
     fn output(&self) -> Output {
         match self.phase {
             Phase::Idle => Output { pins: 0, value: 0 },
-            Phase::Sending { byte, left: _ } => Output {
+            Phase::Sending { byte, .. } => Output {
                 pins: 1,
                 value: byte,
             },
-            Phase::Telling { left: _ } => Output {
+            Phase::Telling { .. } => Output {
                 pins: 2,
                 value: self.lost,
             },
@@ -154,13 +99,27 @@ impl<C: Clock> Part<C> for Uart<C> {
     }
 
     fn internal(&mut self) {
-        *self = self.after(Event::Fires);
+        match self.phase {
+            Phase::Idle => (),
+            Phase::Sending { .. } if self.lost > 0 => {
+                self.phase = Phase::Telling { left: C::wait(0) };
+            }
+            Phase::Sending { .. } | Phase::Telling { .. } => self.next(),
+        }
     }
 
     fn external(&mut self, elapsed: C, pins: u8, value: u8) {
-        *self = self.after(Event::Byte {
-            elapsed,
-            byte: value,
-        });
+        // kept: two arms, since where one arm serves both, what the write through `left` leaves is lost to the proof
+        match &mut self.phase {
+            Phase::Idle => self.phase = self.sending(value),
+            Phase::Sending { left, .. } => {
+                *left = elapsed.gap_to(*left);
+                self.take(value);
+            }
+            Phase::Telling { left } => {
+                *left = elapsed.gap_to(*left);
+                self.take(value);
+            }
+        }
     }
 }

@@ -6,6 +6,8 @@ use Rattle.part.specs.declared.part.Output.{Output}
 use Rattle.part.specs.declared.uart.Uart.{Uart}
 use Rattle.part.specs.declared.uart.Phase.{Phase}
 use Rattle.part.specs.declared.uart.Phase.TheVariants.{Idle, Sending, Telling}
+use Rattle.part.specs.declared.uart.Event.{Event}
+use Rattle.part.specs.declared.uart.Event.TheVariants.{Fires, Byte}
 
 -- idle, nothing held, lost 0
 abbrev pub uart_starts : {C : Type 0} → Time C → ℕ → Uart C
@@ -56,6 +58,11 @@ serial time = record {
   internal = λ u. uart_internal time u u.phase;
   external = λ u e pins v. uart_external time u u.phase e v;
 }
+
+-- either event, by name
+abbrev pub happens : {C : Type 0} → Time C → Uart C → Event C → Uart C
+happens time u Fires = (serial time).internal u
+happens time u (Byte e v) = (serial time).external u e 1 v
 
 -- its time for a bit is one that a netlist can write, and the time left is a span or never
 pub record Transmits {C : Type 0} (time : Time C) (u : Uart C) : Type 0 where

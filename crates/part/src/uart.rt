@@ -1,6 +1,6 @@
 // The UART: sends the bytes it is given one after another, holds one, and tells how many it lost.
 ghost use Rattle.std.specs.Prelude.{◌≡◌, MatchOption};
-ghost use Rattle.part.specs.Uart.{serial, Transmits, uart_starts, next, takes};
+ghost use Rattle.part.specs.Uart.{serial, Transmits, uart_starts, next, takes, happens};
 ghost use Rattle.std.proofs.Common.{rules};
 
 use crate::part::{Output, Part};
@@ -24,6 +24,13 @@ pub struct Uart<C> {
     pub lost: u8,
 }
 
+// What can happen to it.
+#[derive(Clone, Copy)]
+enum Event<C> {
+    Fires,
+    Byte { elapsed: C, byte: u8 },
+}
+
 impl<C: Clock> Uart<C> {
     // An idle UART, or nothing where the time for a bit is 0.
     pub fn new(baud: u16) -> Option<Uart<C>>
@@ -41,8 +48,8 @@ impl<C: Clock> Uart<C> {
     }
 
     // A byte on the wire: it takes ten bits.
-    fn sending(&self, byte: u8) -> Phase<C>
-        ensures value { result ≡ Rattle.part.specs.Uart.sending C.Clock.time self.now.baud byte }
+    fn sending(self, byte: u8) -> Phase<C>
+        ensures value { result ≡ Rattle.part.specs.Uart.sending C.Clock.time self.baud byte }
     {
         Phase::Sending {
             byte,
@@ -51,21 +58,57 @@ impl<C: Clock> Uart<C> {
     }
 
     // A held byte is sent next; else it is idle.
-    fn next(&mut self)
-        ensures value { self.new ≡ next C.Clock.time self.old.baud self.old.held }
+    fn next(self) -> Uart<C>
+        ensures value { result ≡ next C.Clock.time self.baud self.held }
     {
-        self.phase = self.held.map_or(Phase::Idle, |byte| self.sending(byte));
-        self.held = None;
-        self.lost = 0;
+        Uart {
+            phase: self.held.map_or(Phase::Idle, |byte| self.sending(byte)),
+            held: None,
+            lost: 0,
+            ..self
+        }
     }
 
     // A byte that comes while another is on the wire: it is held, or it is lost.
-    fn take(&mut self, byte: u8)
-        ensures value { self.new ≡ takes self.old.baud self.old.phase self.old.held self.old.lost byte }
+    fn takes(self, phase: Phase<C>, byte: u8) -> Uart<C>
+        ensures value { result ≡ takes self.baud phase self.held self.lost byte }
     {
         match self.held {
-            None => self.held = Some(byte),
-            Some(_) => self.lost = self.lost.saturating_add(1),
+            None => Uart {
+                phase,
+                held: Some(byte),
+                ..self
+            },
+            Some(_) => Uart {
+                phase,
+                lost: self.lost.saturating_add(1),
+                ..self
+            },
+        }
+    }
+
+    fn after(self, event: Event<C>) -> Uart<C>
+        ensures value { result ≡ happens C.Clock.time self event }
+    {
+        match (self.phase, event) {
+            (Phase::Idle, Event::Fires) => self,
+            (Phase::Idle, Event::Byte { byte, .. }) => Uart {
+                phase: self.sending(byte),
+                ..self
+            },
+            (Phase::Sending { .. }, Event::Fires) if self.lost > 0 => Uart {
+                phase: Phase::Telling { left: C::wait(0) },
+                ..self
+            },
+            (Phase::Sending { .. } | Phase::Telling { .. }, Event::Fires) => self.next(),
+            (Phase::Sending { byte: sent, left }, Event::Byte { elapsed, byte }) => {
+                let left = elapsed.gap_to(left);
+                self.takes(Phase::Sending { byte: sent, left }, byte)
+            }
+            (Phase::Telling { left }, Event::Byte { elapsed, byte }) => {
+                let left = elapsed.gap_to(left);
+                self.takes(Phase::Telling { left }, byte)
+            }
         }
     }
 }
@@ -99,27 +142,13 @@ impl<C: Clock> Part<C> for Uart<C> {
     }
 
     fn internal(&mut self) {
-        match self.phase {
-            Phase::Idle => (),
-            Phase::Sending { .. } if self.lost > 0 => {
-                self.phase = Phase::Telling { left: C::wait(0) };
-            }
-            Phase::Sending { .. } | Phase::Telling { .. } => self.next(),
-        }
+        *self = self.after(Event::Fires);
     }
 
     fn external(&mut self, elapsed: C, pins: u8, value: u8) {
-        // kept: two arms, since where one arm serves both, what the write through `left` leaves is lost to the proof
-        match &mut self.phase {
-            Phase::Idle => self.phase = self.sending(value),
-            Phase::Sending { left, .. } => {
-                *left = elapsed.gap_to(*left);
-                self.take(value);
-            }
-            Phase::Telling { left } => {
-                *left = elapsed.gap_to(*left);
-                self.take(value);
-            }
-        }
+        *self = self.after(Event::Byte {
+            elapsed,
+            byte: value,
+        });
     }
 }

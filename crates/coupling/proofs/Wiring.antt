@@ -1,14 +1,15 @@
 -- Reading and wiring a network.
-use Rattle.std.proofs.Common.{◌≡◌, ℕ, ◌+◌, ◌*◌, ◌≤◌, List, get_or, replicate, vec_items, sym, ap, ◌∙◌, ⊎_elim, arith}
-use Rattle.std.proofs.lemmas.List.{get_or_past, get_or-replicate, length-replicate}
+use Rattle.std.proofs.Common.{◌≡◌, ℕ, ◌+◌, ◌-◌, ◌*◌, ◌<◌, ◌≤◌, List, get_or, take, drop, replicate, vec_items, sym, ap, ap₂, ◌∙◌, ⊎_elim, arith}
+use Rattle.std.proofs.lemmas.List.{get_or_past, get_or-take, get_or-drop, get_or-replicate, length-replicate}
 use Rattle.std.proofs.lemmas.Bool.{cases_lt}
-use Rattle.coupling.specs.Rows.{row_at, set_of, nothing}
+use Rattle.coupling.specs.Rows.{row_at, set_of, nothing, UnionOf}
 use Rattle.coupling.specs.Wiring.{Reaches}
-use Rattle.coupling.specs.Networks.{wired}
+use Rattle.coupling.specs.Networks.{wired, first_row}
+use Rattle.coupling.specs.declared.coupling.Source.{Source}
 use Rattle.coupling.specs.declared.coupling.Source.TheVariants.{Part}
 use Rattle.coupling.specs.declared.network.Network.{Network}
 use Rattle.coupling.specs.declared.rows.Row.{Row}
-use Rattle.coupling.proofs.Unions.{union_none}
+use Rattle.coupling.proofs.Unions.{union_none, union_same}
 
 abbrev board_of : Row → ℕ
 board_of r = r.board
@@ -27,6 +28,18 @@ absent_reaches n i pins r h e =
     record {
       parts = λ j l. ap (λ x. set_of x j) e ∙ nothing_set j ∙ sym (union_none _ pins (λ k. ap (λ x. set_of x j) (past k) ∙ nothing_set j));
       outputs = ap board_of e ∙ sym (union_none _ pins (λ k. ap board_of (past k)));
+    }
+
+-- what the eight rows of a source reach
+pub lent_reaches : (n : Network) (s t : Source) (pins first : ℕ) (all : List Row) (r : Row) → t ≡ s → first ≡ first_row t → all ≡ vec_items n.rows →
+    UnionOf (take (first + 8 - first) (drop first all)) pins r → Reaches (wired n) s pins r
+lent_reaches n s t pins first all r et ef ea h =
+    let start : first ≡ first_row s = ef ∙ ap first_row et in
+    let lent : (k : ℕ) → k < 8 → row_at (take (first + 8 - first) (drop first all)) k ≡ row_at (vec_items n.rows) (first_row s + k) =
+    λ k l. get_or-take (first + 8 - first) (drop first all) k nothing (omega arith) ∙ get_or-drop first all k nothing ∙ ap₂ (λ rows at. row_at rows (at + k)) ea start in
+    record {
+      parts = λ j l. h.sets j (omega (arith, n.few_parts)) ∙ union_same _ _ pins (λ k q. ap (λ x. set_of x j) (lent k q));
+      outputs = h.board ∙ union_same _ _ pins (λ k q. ap board_of (lent k q));
     }
 
 -- rows that reach nothing

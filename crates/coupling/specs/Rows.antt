@@ -1,5 +1,5 @@
 -- Rows of pin sets, and their union.
-use Rattle.std.specs.Prelude.{◌≡◌, ℕ, zero, suc, ◌+◌, ◌/◌, ◌%◌, ◌^◌, ◌<◌, cond, List, replicate, ◌==◌, bit_or, slice_index, slice_index_or}
+use Rattle.std.specs.Prelude.{◌≡◌, ℕ, zero, suc, ◌/◌, ◌%◌, ◌^◌, ◌<◌, cond, List, replicate, ◌==◌, bit_or, slice_index, slice_index_or}
 use Rattle.coupling.specs.declared.rows.Row.{Row}
 
 abbrev pub nothing : Row
@@ -27,7 +27,7 @@ union f pins = union_below 8 f pins
 abbrev pub row_at : List Row → ℕ → Row
 row_at rows r = slice_index_or rows r nothing
 
--- r is what the pins of a set reach, the rows of pins 0 to 7 standing from `first` on
-pub record Union (rows : List Row) (first pins : ℕ) (r : Row) : Type 0 where
-  pub sets : (i : ℕ) → i < 64 → set_of r i ≡ union (λ k. set_of (row_at rows (first + k)) i) pins
-  pub board : r.board ≡ union (λ k. (row_at rows (first + k)).board) pins
+-- r is what the pins of a set reach, by the rows of pins 0 to 7
+pub record UnionOf (rows : List Row) (pins : ℕ) (r : Row) : Type 0 where
+  pub sets : (i : ℕ) → i < 64 → set_of r i ≡ union (λ k. set_of (row_at rows k) i) pins
+  pub board : r.board ≡ union (λ k. (row_at rows k).board) pins

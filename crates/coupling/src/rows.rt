@@ -1,6 +1,6 @@
 // Rows of pin sets.
-ghost use Rattle.std.specs.Prelude.{◌≡◌, ◌+◌, ◌≤◌, length};
-ghost use Rattle.coupling.specs.Rows.{Joins, Union};
+ghost use Rattle.std.specs.Prelude.{◌≡◌, length};
+ghost use Rattle.coupling.specs.Rows.{Joins, UnionOf};
 
 // At most so many parts have a place in a row.
 pub const PARTS: usize = 64;
@@ -28,8 +28,8 @@ impl Row {
         ensures reaches_what_either_does { Joins self other.now result }
     {
         let mut sets = self.sets;
-        'parts: for i in 0..PARTS {
-            sets[i] |= other.sets[i];
+        'parts: for (part, set) in sets.iter_mut().enumerate() {
+            *set |= other.sets[part];
         }
         Row {
             sets,
@@ -38,15 +38,15 @@ impl Row {
     }
 }
 
-// What the pins of a set reach, the rows of pins 0 to 7 standing from `first` on.
-pub(crate) fn union(rows: &[Row], first: usize, pins: u8) -> Row
-    requires in_range { first + 8 ≤ length rows.now }
-    ensures is_the_union { Union rows.now first pins result }
+// What the pins of a set reach, by the rows of pins 0 to 7.
+pub(crate) fn union(rows: &[Row], pins: u8) -> Row
+    requires one_for_each_pin { length rows.now ≡ 8 }
+    ensures is_the_union { UnionOf rows.now pins result }
 {
     let mut all = Row::empty();
-    'pins: for pin in 0..8u8 {
+    'pins: for (pin, row) in rows.iter().enumerate() {
         if (pins >> pin) % 2 == 1 {
-            all = all.join(&rows[first + usize::from(pin)]);
+            all = all.join(row);
         }
     }
     all

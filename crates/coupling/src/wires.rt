@@ -1,5 +1,5 @@
 // Wiring a network by hand, and reading it.
-ghost use Rattle.std.specs.Prelude.{◌≡◌, ◌<◌, replicate, IfOk, MatchResult};
+ghost use Rattle.std.specs.Prelude.{◌≡◌, ◌<◌, ◌≤◌, replicate, IfOk, MatchResult};
 ghost use Rattle.coupling.specs.declared.wires.BuildFault.TheVariants.{Memory};
 ghost use Rattle.coupling.specs.Rows.{nothing};
 ghost use Rattle.coupling.specs.Networks.{wired, Bare, Unbuildable, Wired, Unwirable, HasSource, HasTarget, Apart, added, target_fits};
@@ -24,6 +24,7 @@ pub enum BuildFault {
     Memory,
 }
 
+// kept: a derived `From` has no `from_gives`, by which `Network::new` knows that running out of memory is `Memory`
 impl From<AllocError> for BuildFault {
     ghost from_gives = { λ _ r. r ≡ Memory };
 
@@ -47,14 +48,24 @@ pub fn blank(heap: Global, count: usize) -> Result<Vec<Row>, AllocError>
     vec![in heap; Row::empty(); count]
 }
 
+// Where the rows of a source's pins begin.
+fn first_row(source: Source) -> usize
+    requires in_range { Rattle.coupling.specs.Networks.first_row source ≤ 512 }
+    ensures value { result ≡ Rattle.coupling.specs.Networks.first_row source }
+{
+    match source {
+        Source::Board => 0,
+        Source::Part(part) => 8 * (part + 1),
+    }
+}
+
 // Whether a wire leads from one thing to another.
 fn apart(source: Source, target: Target) -> bool
     ensures value { result ≡ Apart source target }
 {
     match (source, target) {
-        (Source::Part(from), Target::Part { part, pin: _ }) => from != part,
-        (Source::Part(_), Target::Board { pin: _ }) => true,
-        (Source::Board, _) => true,
+        (Source::Part(from), Target::Part { part, .. }) => from != part,
+        (Source::Part(_), Target::Board { .. }) | (Source::Board, _) => true,
     }
 }
 
@@ -73,6 +84,7 @@ fn with_target(row: Row, target: Target) -> Row
 
 impl Network {
     // A network with no wires.
+    #[tactic(auto, using(crate::proofs::Wiring::blank_set, crate::proofs::Wiring::blank_board))]
     pub fn new(heap: Global, parts: usize, inputs: u8) -> Result<Network, BuildFault>
         ensures has_no_wires_or_refuses { MatchResult result (λ n. Bare parts inputs n) (λ e. Unbuildable parts inputs e) }
     {
@@ -121,10 +133,7 @@ impl Network {
         if !apart(source, target) {
             return Err(WireFault::OwnPart);
         }
-        let at = match source {
-            Source::Board => usize::from(pin),
-            Source::Part(part) => 8 * (part + 1) + usize::from(pin),
-        };
+        let at = first_row(source) + usize::from(pin);
         let row = with_target(self.rows[at], target);
         self.rows[at] = row;
         Ok(())
@@ -143,10 +152,12 @@ impl Coupling for Network {
     }
 
     fn reach(&self, source: Source, pins: u8) -> Row {
-        match source {
-            Source::Board => union(&self.rows, 0, pins),
-            Source::Part(part) if part < self.parts => union(&self.rows, 8 * (part + 1), pins),
-            Source::Part(_) => Row::empty(),
+        if let Source::Part(part) = source
+            && part >= self.parts
+        {
+            return Row::empty();
         }
+        let first = first_row(source);
+        union(&self.rows[first..first + 8], pins)
     }
 }

@@ -1,17 +1,13 @@
 -- The printed paths of parts.
-use Rattle.std.proofs.Common.{◌≡◌, ℕ, ◌<◌, ◌≤◌, List, [], ◌∷◌, ◌++◌, length, get_or, sym, ap, ◌∙◌, subst, arith}
+use Rattle.std.proofs.Common.{◌≡◌, ℕ, ◌<◌, List, [], ◌∷◌, ◌++◌, length, get_or, sym, ap, ◌∙◌, subst}
 use Rattle.std.proofs.lemmas.List.{get_or_default, append-nil, append_assoc}
 use Rattle.names.specs.Names.{name_text}
-use Rattle.board.specs.Lending.{Into, board, block, PathOf}
-use Rattle.board.specs.Wires.{block_at, component_at, no_block, no_component}
+use Rattle.board.specs.Lending.{Into, board, block}
+use Rattle.board.specs.Wires.{block_at, no_block}
 use Rattle.board.specs.declared.parts.Block.{Block}
-use Rattle.board.specs.declared.parts.Component.{Component}
 
 pub read_block : (blocks : List Block) (b : ℕ) (x : Block) → x ≡ get_or blocks b x → b < length blocks → x ≡ block_at blocks b
 read_block blocks b x e h = e ∙ get_or_default blocks b x no_block h
-
-pub read_part : (parts : List Component) (i : ℕ) (x : Component) → x ≡ get_or parts i x → i < length parts → x ≡ component_at parts i
-read_part parts i x e h = e ∙ get_or_default parts i x no_component h
 
 -- what the text from a block down has been added to
 abbrev pub Added : List Block → ℕ → List ℕ → List ℕ → Type 0
@@ -29,13 +25,3 @@ added_block blocks b x out mid named after h l e (text, into, is) n s =
       (s ∙ ap (λ y. y ++ 47 ∷ []) (n ∙ (λ i. is i ++ name_text (e i).name))
           ∙ append_assoc (out ++ text) name (47 ∷ []) ∙ append_assoc out text (name ++ 47 ∷ [])),
     )
-
-pub path_here : (blocks : List Block) (parts : List Component) (i : ℕ) (x : Component) (out mid path : List ℕ) → i < length parts → x ≡ component_at parts i →
-    out ≡ [] → Added blocks x.block out mid → path ≡ mid ++ name_text x.name → PathOf blocks parts i path
-path_here blocks parts i x out mid path h e none (text, into, is) n = record {
-  here = λ _. (text, subst (λ y. Into blocks y.block text) e into, n ∙ (λ k. (is ∙ ap (λ o. o ++ text) none) k ++ name_text (e k).name));
-  absent = λ l. absurd (omega arith);
-}
-
-pub path_absent : (blocks : List Block) (parts : List Component) (i : ℕ) (path : List ℕ) → length parts ≤ i → path ≡ [] → PathOf blocks parts i path
-path_absent blocks parts i path h e = record { here = λ l. absurd (omega arith); absent = λ _. e }

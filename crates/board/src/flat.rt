@@ -21,9 +21,8 @@ impl<P> Board<P> {
         let parts = self.plan.components.len();
         let blocks = self.plan.blocks.len();
         let mut rows = blank(heap, 8 * (parts + blocks + blocks) + 1)?;
-        let wires = self.plan.wires.as_slice();
         'turns: for turn in 0..blocks + blocks + 1 {
-            sweep(&mut rows, wires, &self.plan, parts, blocks, turn);
+            sweep(&mut rows, &self.plan, turn);
         }
         rows.truncate(8 * (parts + 1));
         Ok(Network {

@@ -42,11 +42,10 @@ impl<P> Board<P> {
     pub fn name(&self, part: usize) -> Option<Name>
         ensures is_the_name { MatchOption result (vec_len self.now.plan.components ≤ part) (λ n. (part < vec_len self.now.plan.components) × (n ≡ (component_at self.now.plan.components.items part).name)) }
     {
-        if part < self.plan.components.len() {
-            Some(self.plan.components[part].name)
-        } else {
-            None
-        }
+        self.plan
+            .components
+            .get(part)
+            .map(|component| component.name)
     }
 
     // The path of a part, as io/a; empty where there is no such part.
@@ -54,10 +53,9 @@ impl<P> Board<P> {
         ensures is_the_path { IfOk result (λ v. PathOf self.now.plan.blocks.items self.now.plan.components.items part v.items) }
     {
         let mut out = Vec::new(heap);
-        if part >= self.plan.components.len() {
+        let Some(component) = self.plan.components.get(part) else {
             return Ok(out);
-        }
-        let component = self.plan.components[part];
+        };
         push_blocks(&mut out, &self.plan, component.block)?;
         push_name(&mut out, &component.name)?;
         Ok(out)

@@ -3,6 +3,7 @@
 
 pub mod flat;
 mod flatten;
+mod layout;
 pub mod lending;
 pub mod nested;
 pub mod parts;

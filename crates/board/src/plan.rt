@@ -8,6 +8,7 @@ use crate::pins::Wire;
 #[derive(Drop)]
 pub struct Plan {
     // in the order in which they are opened
+    // kept: a list and no tree, since the rules number the blocks in this order, and pins and parents name them by number
     pub blocks: Vec<Block>,
     // in the order in which they are written, across blocks
     pub components: Vec<Component>,

@@ -1,22 +1,10 @@
-use Rattle.std.proofs.Common.{ℕ, ◌<◌, is_ok, vec_items, ap, arith}
+use Rattle.std.proofs.Common.{◌<◌, is_ok, vec_items, ap, arith}
 use Rattle.std.proofs.ResultArms.{chosen}
-use Rattle.board.specs.declared.parts.Block.{Block}
 use Rattle.board.proofs.Ways.{read_block, added_none, added_block}
 use Rattle.board.proofs.lending.+push_blocks.Goals as goal
 
-abbrev parent_of : Block → ℕ
-parent_of b = b.parent
-
 pub returns-then-block-eq0 : goal.returns-then-block-eq0
 returns-then-block-eq0 t c = record { adds_the_way = added_none _ _ _ c.if-block-eq0.true }
-
-pub push_blocks-requires : goal.push_blocks-requires
-push_blocks-requires t c =
-    let plan = c.args.plan.now in
-    let some : 0 < c.args.block = omega (arith, c.if-block-eq0.false) in
-    let up = plan.parents_first c.args.block (some, c.requires.is_there) in
-    let x = ap parent_of (read_block (vec_items plan.blocks) c.args.block _ c.index.ensures (omega (arith, c.requires.is_there, plan.blocks.ok.0))) in
-    (omega (arith, x, up, c.decreases), omega (arith, x, up, c.requires.is_there))
 
 pub returns : goal.returns
 returns t c =

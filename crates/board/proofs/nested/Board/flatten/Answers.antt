@@ -36,33 +36,33 @@ returns-in_err-rows g c =
 pub turns-init : goal.turns-init
 turns-init g c =
     let made = c.in_ok-rows.ensures.reach_nothing in
-    none_yet c.args.self.now.plan c.as_slice-wires.result.now c.len-parts.result c.len-blocks.result c.as_slice-wires.ensures.value c.len-parts.ensures c.len-blocks.ensures _
-    (ap length made ∙ length-replicate _ _) (λ r. ap (λ l. get_or l r nothing) made ∙ blank_row _ r)
+    none_yet c.args.self.now.plan _ refl _ _ refl refl _ (omega (arith, ap length made ∙ length-replicate _ _)) (λ r. ap (λ l. get_or l r nothing) made ∙ blank_row _ r)
 
 pub turns-preserved : goal.turns-preserved
 turns-preserved g c =
+    let plan = c.args.self.now.plan in
     let same : length c.sweep.new.rows ≡ c.turns.rows.len = omega (arith, c.sweep.ensures.after.long, c.turns.invariant.long, c.turns.rows.ok.0) in
-    subst (Swept c.as_slice-wires.result.now c.len-parts.result c.len-blocks.result (c.turns.turn + 1) 0) (sym (take_at c.sweep.new.rows _ _ same))
-    (next_turn c.args.self.now.plan c.as_slice-wires.result.now c.len-parts.result c.len-blocks.result c.as_slice-wires.ensures.value c.len-parts.ensures c.len-blocks.ensures c.turns.turn _ c.sweep.ensures.after)
+    subst (Swept (vec_items plan.wires) (vec_len plan.components) (vec_len plan.blocks) (c.turns.turn + 1) 0) (sym (take_at c.sweep.new.rows _ _ same))
+    (next_turn plan _ refl _ _ refl refl c.turns.turn _ c.sweep.ensures.after)
 
 pub invariant_of-result : goal.invariant_of-result
 invariant_of-result g c =
     let plan = c.args.self.now.plan in
-    let W = c.as_slice-wires.result.now in
+    let W = vec_items plan.wires in
     let n = c.len-parts.result in
     let m = c.len-blocks.result in
-    let ew = c.as_slice-wires.ensures.value in
     let en = c.len-parts.ensures in
     let em = c.len-blocks.ensures in
     let some : 0 < m = omega (arith, c.args.self.now.has_the_board, em) in
     let last : c.turns.turn ≡ m + m + 1 = omega (arith, c.turns-test.false, c.turns.auto.turn-end) in
-    let swept = swept_moved W W n n m m c.turns.turn (vec_items c.turns.rows) refl refl refl last c.turns.invariant in
+    let rows = vec_items c.turns.rows in
+    let swept = subst (λ t. Swept W n m t 0 rows) last (swept_moved W W _ n _ m c.turns.turn 0 rows refl (sym en) (sym em) c.turns.invariant) in
     let cut = c.truncate.ensures.items in record {
-      few_parts = few_parts plan W n m ew en em;
+      few_parts = few_parts plan W refl n m en em;
       few_inputs = subst (λ b. b.ins ≤ 8) (sym (at_board (vec_items plan.blocks) _ c.index.ensures (omega (arith, some, em, plan.blocks.ok.0)))) (plan.block_pins 0).0;
-      a_row_for_each_pin = c.truncate.new.self.ok.0 ∙ flat_long plan W n m ew en em some _ _ swept cut;
-      none_to_itself = flat_itself plan W n m ew en em some _ _ swept cut;
-      none_to_absent = flat_absent plan W n m ew en em some _ _ swept cut;
+      a_row_for_each_pin = c.truncate.new.self.ok.0 ∙ flat_long plan W refl n m en em some _ _ swept cut;
+      none_to_itself = flat_itself plan W refl n m en em some _ _ swept cut;
+      none_to_absent = flat_absent plan W refl n m en em some _ _ swept cut;
     }
 
 pub returns : goal.returns
@@ -72,14 +72,14 @@ returns g c =
     let n = vec_len plan.components in
     let m = vec_len plan.blocks in
     let some : 0 < m = c.args.self.now.has_the_board in
-    let last : c.turns.turn ≡ c.len-blocks.result + c.len-blocks.result + 1 = omega (arith, c.turns-test.false, c.turns.auto.turn-end) in
-    let swept = swept_moved c.as_slice-wires.result.now W c.len-parts.result n c.len-blocks.result m c.turns.turn (vec_items c.turns.rows) c.as_slice-wires.ensures.value c.len-parts.ensures c.len-blocks.ensures last c.turns.invariant in
+    let last : c.turns.turn ≡ m + m + 1 = omega (arith, c.turns-test.false, c.turns.auto.turn-end, c.len-blocks.ensures) in
+    let swept = subst (λ t. Swept W n m t 0 (vec_items c.turns.rows)) last c.turns.invariant in
     let cut = c.truncate.ensures.items ∙ ap (λ k. take (8 * (k + 1)) (vec_items c.turns.rows)) c.len-parts.ensures in
     let flat : Flattened W n (block_at (vec_items plan.blocks) 0).ins (of_rows c.len-parts.result c.index.result.now.ins (vec_items c.truncate.new.self)) = record {
       part_count = c.len-parts.ensures;
       input_count = ap ins_of (at_board (vec_items plan.blocks) _ c.index.ensures (omega (arith, some, plan.blocks.ok.0)));
-      to_part = flat_part plan W n m refl refl refl some _ _ swept cut;
-      to_board = flat_board plan W n m refl refl refl some _ _ swept cut;
+      to_part = flat_part plan W refl n m refl refl some _ _ swept cut;
+      to_board = flat_board plan W refl n m refl refl some _ _ swept cut;
     } in
     record {
       rows_are_the_paths = flat;

@@ -1,7 +1,5 @@
 -- A delivery, one place after another.
-use Rattle.std.proofs.Common.{◌≡◌, ℕ, zero, suc, ◌+◌, ◌<◌, ◌≤◌, true, eqb, List, [], ◌∷◌, length, get_or, set, sym, refl, ap, ◌∙◌, subst, le_of_suc-le-suc, not-suc-le-zero, add-one, arith}
-use Rattle.std.proofs.lemmas.List.{get_or_default, set-get_or}
-use Rattle.std.proofs.lemmas.Bool.{cond-true}
+use Rattle.std.proofs.Common.{◌≡◌, ℕ, zero, suc, ◌+◌, ◌<◌, ◌≤◌, List, [], ◌∷◌, ◌++◌, length, get_or, take, drop, set, sym, refl, ap, ◌∙◌, le_of_suc-le-suc, not-suc-le-zero, add-one, arith}
 use Rattle.clock.specs.Time.{Time}
 use Rattle.part.specs.Kind.{Kind}
 use Rattle.session.specs.declared.places.Place.{Place}
@@ -28,25 +26,24 @@ module _ {P C : Type 0} (time : Time C) (kind : Kind C P) (m : C) (v : ℕ) wher
   delivered_at (suc n) sets (x ∷ xs) zero d h l = refl
   delivered_at (suc n) sets (x ∷ xs) (suc j) d h l = delivered_at n (λ i. sets (suc i)) xs j d (le_of_suc-le-suc h) (le_of_suc-le-suc l)
 
-  delivered_suc : (n : ℕ) (sets : ℕ → ℕ) (xs : List (Place P C)) (p : Place P C) → n < length xs → p ≡ get_or xs n p →
-      delivered time kind m v (suc n) sets xs ≡ set (delivered time kind m v n sets xs) n (given time kind m (sets n) v p)
-  delivered_suc n sets [] p h e = absurd (not-suc-le-zero h)
-  delivered_suc zero sets (x ∷ xs) p h e = ap (λ y. given time kind m (sets 0) v y ∷ xs) (sym e)
-  delivered_suc (suc n) sets (x ∷ xs) p h e = ap (λ l. given time kind m (sets 0) v x ∷ l) (delivered_suc n (λ i. sets (suc i)) xs p (le_of_suc-le-suc h) e)
+  delivered_suc : (n : ℕ) (sets : ℕ → ℕ) (xs : List (Place P C)) (d : Place P C) → n < length xs →
+      delivered time kind m v (suc n) sets xs ≡ set (delivered time kind m v n sets xs) n (given time kind m (sets n) v (get_or xs n d))
+  delivered_suc n sets [] d h = absurd (not-suc-le-zero h)
+  delivered_suc zero sets (x ∷ xs) d h = refl
+  delivered_suc (suc n) sets (x ∷ xs) d h = ap (λ l. given time kind m (sets 0) v x ∷ l) (delivered_suc n (λ i. sets (suc i)) xs d (le_of_suc-le-suc h))
 
   -- one place more
-  pub delivered_more : (n : ℕ) (sets : ℕ → ℕ) (xs ys : List (Place P C)) (p q : Place P C) →
-      n < length xs → ys ≡ delivered time kind m v n sets xs → p ≡ get_or ys n p → q ≡ given time kind m (sets n) v p →
+  pub delivered_more : (n : ℕ) (sets : ℕ → ℕ) (xs ys : List (Place P C)) (d q : Place P C) →
+      n < length xs → ys ≡ delivered time kind m v n sets xs → q ≡ given time kind m (sets n) v (get_or ys n d) →
       set ys n q ≡ delivered time kind m v (n + 1) sets xs
-  delivered_more n sets xs ys p q h e read is =
-      let old : p ≡ get_or xs n p = read ∙ ap (λ l. get_or l n p) e ∙ delivered_after n sets xs n p (omega arith) in
-      (λ i. set (e i) n (is i)) ∙ sym (delivered_suc n sets xs p h old) ∙ ap (λ k. delivered time kind m v k sets xs) (sym (add-one n))
+  delivered_more n sets xs ys d q h e is =
+      let old : get_or ys n d ≡ get_or xs n d = ap (λ l. get_or l n d) e ∙ delivered_after n sets xs n d (omega arith) in
+      (λ i. set (e i) n (is i)) ∙ ap (λ p. set (delivered time kind m v n sets xs) n (given time kind m (sets n) v p)) old
+      ∙ sym (delivered_suc n sets xs d h) ∙ ap (λ k. delivered time kind m v k sets xs) (sym (add-one n))
 
-  -- a place that is not reached stays
-  pub delivered_skips : (n : ℕ) (sets : ℕ → ℕ) (xs ys : List (Place P C)) → n < length xs → ys ≡ delivered time kind m v n sets xs → eqb (sets n) 0 ≡ true →
-      ys ≡ delivered time kind m v (n + 1) sets xs
-  delivered_skips n sets [] ys h e t = absurd (not-suc-le-zero h)
-  delivered_skips n sets (x ∷ xs) ys h e t =
-      let p = get_or ys n x in
-      let same : p ≡ get_or ys n p = get_or_default ys n x p (subst (λ k. n < k) (sym (ap length e ∙ delivered_length n sets (x ∷ xs))) h) in
-      sym (set-get_or ys n x) ∙ delivered_more n sets (x ∷ xs) ys p p h e same (sym (cond-true _ _ _ t))
+  -- the first n places, and those after them
+  pub delivered_part : (n : ℕ) (sets : ℕ → ℕ) (xs : List (Place P C)) → delivered time kind m v n sets (take n xs) ++ drop n xs ≡ delivered time kind m v n sets xs
+  delivered_part zero sets [] = refl
+  delivered_part zero sets (x ∷ xs) = refl
+  delivered_part (suc n) sets [] = refl
+  delivered_part (suc n) sets (x ∷ xs) = ap (λ l. given time kind m (sets 0) v x ∷ l) (delivered_part n (λ i. sets (suc i)) xs)

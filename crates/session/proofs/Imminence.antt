@@ -1,6 +1,7 @@
 -- The imminent part, found one part after another; and there is only one.
 use Rattle.std.proofs.Common.{◌≡◌, ℕ, ◌+◌, ◌<◌, true, false, ◌⊎◌, List, [], ◌∷◌, ◌++◌, map, length, get_or, take, IfSome, Some, None, Option, sym, refl, ap, ◌∙◌, subst, inl, inr, ⊎_elim, arith}
-use Rattle.std.proofs.lemmas.List.{get_or_append_left, get_or-append_right, get_or_past, get_or_push, length-map, length-take-le, length-take, map_more}
+use Rattle.std.proofs.lemmas.List.{get_or_append_left, get_or-append_right, get_or_past, get_or_push, length-map, length-take-le, map_more}
+use Rattle.std.proofs.lemmas.Option.{same_Some}
 use Rattle.std.proofs.lemmas.Bool.{cases_order, cases_lt, cases_Bool, both_ways, cond-true, cond-false}
 use Rattle.clock.specs.Time.{Time, Laws}
 use Rattle.part.specs.Kind.{Kind}
@@ -9,11 +10,8 @@ use Rattle.session.specs.declared.scan.Due.{Due}
 use Rattle.session.specs.Machine.{Imminent, First, due}
 use Rattle.session.specs.Scan.{sooner}
 
-pub some_same : {X : Type 0} (a b : X) → Some a ≡ Some b → a ≡ b
-some_same a b e = cc
-
 pub none_some : {X : Type 0} (a : X) (o : Option X) → o ≡ None → o ≡ Some a → ⊥
-none_some a o p q = let z : ◌≡◌ {A = ℕ} 0 1 = cc in omega arith
+none_some a o p q = cc
 
 pub reflexive : {C : Type 0} (time : Time C) → Laws time → (a b : C) → a ≡ b → time.leq a b ≡ true
 reflexive time laws a b e = subst (λ x. time.leq a x ≡ true) e (⊎_elim (λ h. h) (λ h. h) (laws.total a a))
@@ -49,7 +47,7 @@ module _ {C : Type 0} (time : Time C) (laws : Laws time) where
   starts : (ds : List (Option C)) (m : C) → First time ds None → First time (ds ++ Some m ∷ []) (Some (record { moment = m; part = length ds }))
   starts ds m h = record {
     is_due = get_or_push ds (Some m) None (length ds) refl;
-    earliest = λ j t p. ⊎_elim (λ e. absurd (none_some t _ (h j) (sym e ∙ p))) (λ e. reflexive time laws m t (some_same m t (sym e.1 ∙ p))) (at_push ds (Some m) j);
+    earliest = λ j t p. ⊎_elim (λ e. absurd (none_some t _ (h j) (sym e ∙ p))) (λ e. reflexive time laws m t (same_Some m t (sym e.1 ∙ p))) (at_push ds (Some m) j);
     lowest = λ j l p. ⊎_elim (λ e. none_some m _ (h j) (sym e ∙ p)) (λ e. omega (arith, e.0)) (at_push ds (Some m) j);
   }
 
@@ -59,7 +57,7 @@ module _ {C : Type 0} (time : Time C) (laws : Laws time) where
       let before : time.leq m d.moment ≡ true = ⊎_elim (λ p. absurd (both_ways _ less p)) (λ p. p) (laws.total d.moment m) in
       record {
         is_due = get_or_push ds (Some m) None (length ds) refl;
-        earliest = λ j t p. ⊎_elim (λ e. laws.transitive m d.moment t before (h.earliest j t (sym e ∙ p))) (λ e. reflexive time laws m t (some_same m t (sym e.1 ∙ p))) (at_push ds (Some m) j);
+        earliest = λ j t p. ⊎_elim (λ e. laws.transitive m d.moment t before (h.earliest j t (sym e ∙ p))) (λ e. reflexive time laws m t (same_Some m t (sym e.1 ∙ p))) (at_push ds (Some m) j);
         lowest = λ j l p. ⊎_elim (λ e. both_ways _ less (h.earliest j m (sym e ∙ p))) (λ e. omega (arith, e.0)) (at_push ds (Some m) j);
       }
 
@@ -69,7 +67,7 @@ module _ {C : Type 0} (time : Time C) (laws : Laws time) where
   first_more ds None (Some m) h = starts ds m h
   first_more ds (Some d) (Some m) h =
       ⊎_elim
-      (λ t. subst (First time (ds ++ Some m ∷ [])) (sym (cond-true _ _ _ t)) (stays ds (Some m) d (λ u p. subst (λ y. time.leq d.moment y ≡ true) (some_same m u p) t) h))
+      (λ t. subst (First time (ds ++ Some m ∷ [])) (sym (cond-true _ _ _ t)) (stays ds (Some m) d (λ u p. subst (λ y. time.leq d.moment y ≡ true) (same_Some m u p) t) h))
       (λ f. subst (First time (ds ++ Some m ∷ [])) (sym (cond-false _ _ _ f)) (beats ds d m f h))
       (cases_Bool (time.leq d.moment m))
 
@@ -97,7 +95,6 @@ first_next time laws kind places i p x best r within read is came h =
     subst (λ l. First time l r) (sym more)
     (subst (First time (map f (take i places) ++ x ∷ [])) (ap (λ n. sooner time best n x) long ∙ sym came) (first_more time laws (map f (take i places)) best x h))
 
-pub first_inside : {X C : Type 0} (time : Time C) (f : X → Option C) (xs : List X) (n : ℕ) (o : Option (Due C)) → First time (map f (take n xs)) o → IfSome o (λ d. d.part < n)
-first_inside time f xs n None h = tt
-first_inside time f xs n (Some d) h =
-    omega (arith, due_inside (map f (take n xs)) d.part d.moment h.is_due, length-map (take n xs) f, length-take n xs)
+pub first_inside : {C : Type 0} (time : Time C) (ds : List (Option C)) (o : Option (Due C)) → First time ds o → IfSome o (λ d. d.part < length ds)
+first_inside time ds None h = tt
+first_inside time ds (Some d) h = due_inside ds d.part d.moment h.is_due

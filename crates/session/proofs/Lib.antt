@@ -1,4 +1,5 @@
 pub mod Accepted
+pub mod Decisions
 pub mod Deliveries
 pub mod Firings
 pub mod Imminence

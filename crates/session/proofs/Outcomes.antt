@@ -1,5 +1,5 @@
 -- Each call's relation pins its outcome.
-use Rattle.std.proofs.Common.{◌≡◌, ℕ, false, cond, eqb, ◌⊎◌, List, Some, None, Ok, Err, Option, Result, sym, refl, ap, ◌∙◌, subst₂, inl, inr, arith}
+use Rattle.std.proofs.Common.{◌≡◌, ℕ, false, cond, eqb, ◌⊎◌, List, Some, None, Ok, Err, Option, Result, sym, refl, ap, ◌∙◌, subst₂, inl, inr}
 use Rattle.clock.specs.Time.{Laws}
 use Rattle.session.specs.Machine.{Model, Memory, dues, Imminent, NoneDue, event_of}
 use Rattle.session.specs.Calls.{Asks, Refuses, Kept, OnlyOutcome, Opens, Next, Puts, Steps, told, after_firing}
@@ -46,7 +46,7 @@ asks_kept n after (Err e) (inr a) go = go a.1
 
 pub ok_kept : {T M : Type 0} (before after : M) (r : Result T Refusal) (x : T) → r ≡ Ok x → Kept before after r
 ok_kept before after (Ok y) x e = tt
-ok_kept before after (Err y) x e = let z : ◌≡◌ {A = ℕ} 0 1 = cc in absurd (omega arith)
+ok_kept before after (Err y) x e = absurd cc
 
 module _ {P C : Type 0} (M : Model P C) where
   pub opens_only : (starts : List P) (before after : Memory P C) (r : Result Unit Refusal) → Opens M starts before after r → OnlyOutcome (Opens M starts before) after r

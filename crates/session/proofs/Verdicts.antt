@@ -1,5 +1,5 @@
 -- A run's next decision, and so its outcome, is pinned.
-use Rattle.std.proofs.Common.{◌≡◌, ℕ, suc, ◌<◌, cond, eqb, List, [], ◌∷◌, ◌++◌, length, drop, Some, None, Ok, Option, Result, sym, refl, ap, ◌∙◌, subst, subst₂, ⊎_elim, add-one, arith}
+use Rattle.std.proofs.Common.{◌≡◌, ℕ, suc, ◌<◌, cond, eqb, List, [], ◌∷◌, ◌++◌, length, drop, Some, None, Ok, Err, Option, Result, sym, refl, ap, ◌∙◌, subst, subst₂, ⊎_elim, add-one, arith}
 use Rattle.std.proofs.lemmas.List.{append-nil, append_assoc, length_push}
 use Rattle.std.proofs.lemmas.Bool.{cond-true, cond-false, eq-eqb, ne_eqb, cases_eq}
 use Rattle.clock.specs.Time.{Time, Laws}
@@ -9,8 +9,6 @@ use Rattle.session.specs.Scan.{sooner}
 use Rattle.session.specs.declared.places.Place.{Place}
 use Rattle.session.specs.declared.places.Event.{Event}
 use Rattle.session.specs.declared.scan.Due.{Due}
-use Rattle.session.specs.declared.decision.Decision.{Decision}
-use Rattle.session.specs.declared.decision.Decision.TheVariants.{Halt, Fire}
 use Rattle.session.specs.declared.answers.Refusal.{Refusal}
 use Rattle.session.specs.declared.answers.Ran.{Ran}
 use Rattle.session.specs.declared.answers.Stop.{Stop}
@@ -47,54 +45,45 @@ module _ {C : Type 0} (time : Time C) (laws : Laws time) where
   first_none ds (Some d) h k = absurd (none_some d.moment _ (k d.part) h.is_due)
 
 module _ {P C : Type 0} (M : Model P C) (horizon : C) (laws : Laws M.time) where
-  abbrev on_due : ℕ → List (Place P C) → Option (Due C) → Decision C
-  on_due room places None = Halt stop.NothingDue
+  abbrev on_due : ℕ → List (Place P C) → Option (Due C) → Result (Due C) Stop
+  on_due room places None = Err stop.NothingDue
   on_due room places (Some d) =
       cond (M.time.leq d.moment horizon)
       (cond (M.time.within d.moment)
-      (cond (eqb room 0) (cond (eqb (event_of M places d.moment d.part).pins 0) (Fire d) (Halt stop.TraceFull)) (Fire d))
-      (Halt stop.Ceiling))
-      (Halt stop.Horizon)
+      (cond (eqb room 0) (cond (eqb (event_of M places d.moment d.part).pins 0) (Ok d) (Err stop.TraceFull)) (Ok d))
+      (Err stop.Ceiling))
+      (Err stop.Horizon)
 
-  abbrev verdict : ℕ → ℕ → List (Place P C) → Option (Due C) → Decision C
-  verdict budget room places o = cond (eqb budget 0) (Halt stop.Budget) (on_due room places o)
+  abbrev verdict : ℕ → ℕ → List (Place P C) → Option (Due C) → Result (Due C) Stop
+  verdict budget room places o = cond (eqb budget 0) (Err stop.Budget) (on_due room places o)
 
-  some_budget : (budget room : ℕ) (places : List (Place P C)) (o : Option (Due C)) (D : Decision C) → 0 < budget → on_due room places o ≡ D → D ≡ verdict budget room places o
+  some_budget : (budget room : ℕ) (places : List (Place P C)) (o : Option (Due C)) (D : Result (Due C) Stop) → 0 < budget → on_due room places o ≡ D → D ≡ verdict budget room places o
   some_budget budget room places o D h e = sym (cond-false _ _ _ (ne_eqb budget 0 (λ z. omega arith)) ∙ e)
 
-  decided_is : (budget room : ℕ) (places : List (Place P C)) (o : Option (Due C)) (D : Decision C) → First M.time (dues M places) o → Decided M horizon budget room places D → D ≡ verdict budget room places o
-  decided_is budget room places o (Halt stop.Budget) f h = sym (cond-true _ _ _ (eq-eqb budget 0 h))
-  decided_is budget room places o (Halt stop.NothingDue) f h = some_budget budget room places o _ h.0 (ap (on_due room places) (first_none M.time laws _ o f h.1))
-  decided_is budget room places o (Halt stop.Horizon) f h =
+  decided_is : (budget room : ℕ) (places : List (Place P C)) (o : Option (Due C)) (D : Result (Due C) Stop) → First M.time (dues M places) o → Decided M horizon budget room places D → D ≡ verdict budget room places o
+  decided_is budget room places o (Err stop.Budget) f h = sym (cond-true _ _ _ (eq-eqb budget 0 h))
+  decided_is budget room places o (Err stop.NothingDue) f h = some_budget budget room places o _ h.0 (ap (on_due room places) (first_none M.time laws _ o f h.1))
+  decided_is budget room places o (Err stop.Horizon) f h =
       let (m, i, imm, late) = h.1 in
       some_budget budget room places o _ h.0 (ap (on_due room places) (first_some M.time laws _ o m i f imm) ∙ cond-false _ _ _ late)
-  decided_is budget room places o (Halt stop.Ceiling) f h =
+  decided_is budget room places o (Err stop.Ceiling) f h =
       let (m, i, imm, by, late) = h.1 in
       some_budget budget room places o _ h.0 (ap (on_due room places) (first_some M.time laws _ o m i f imm) ∙ cond-true _ _ _ by ∙ cond-false _ _ _ late)
-  decided_is budget room places o (Halt stop.TraceFull) f h =
+  decided_is budget room places o (Err stop.TraceFull) f h =
       let (m, i, ready, some, full) = h in
       some_budget budget room places o _ ready.some_budget
       (ap (on_due room places) (first_some M.time laws _ o m i f ready.imminent) ∙ cond-true _ _ _ ready.by_horizon ∙ cond-true _ _ _ ready.by_ceiling
       ∙ cond-true _ _ _ (eq-eqb room 0 full) ∙ cond-false _ _ _ (ne_eqb (event_of M places m i).pins 0 (λ z. omega (arith, z, some))))
-  decided_is budget room places o (Fire d) f h =
+  decided_is budget room places o (Ok d) f h =
       let ready = h.0 in
       some_budget budget room places o _ ready.some_budget
       (ap (on_due room places) (first_some M.time laws _ o d.moment d.part f ready.imminent) ∙ cond-true _ _ _ ready.by_horizon ∙ cond-true _ _ _ ready.by_ceiling
       ∙ ⊎_elim (λ z. cond-true _ _ _ (eq-eqb room 0 z) ∙ cond-true _ _ _ (eq-eqb (event_of M places d.moment d.part).pins 0 (h.1 z))) (λ n. cond-false _ _ _ (ne_eqb room 0 n)) (cases_eq room 0))
 
-  pub decided_only : (budget room : ℕ) (places : List (Place P C)) (D E : Decision C) → Decided M horizon budget room places D → Decided M horizon budget room places E → D ≡ E
+  pub decided_only : (budget room : ℕ) (places : List (Place P C)) (D E : Result (Due C) Stop) → Decided M horizon budget room places D → Decided M horizon budget room places E → D ≡ E
   decided_only budget room places D E h k =
       let (o, f) = first_exists M.time laws (dues M places) in
       decided_is budget room places o D f h ∙ sym (decided_is budget room places o E f k)
-
-  halt_same : (v w : Stop) → ◌≡◌ {A = Decision C} (Halt v) (Halt w) → v ≡ w
-  halt_same v w e = cc
-
-  halt_fire : (v : Stop) (d : Due C) → ◌≡◌ {A = Decision C} (Halt v) (Fire d) → ⊥
-  halt_fire v d e = let z : ◌≡◌ {A = ℕ} 0 1 = cc in omega arith
-
-  fire_same : (d e : Due C) → ◌≡◌ {A = Decision C} (Fire d) (Fire e) → d ≡ e
-  fire_same d e p = cc
 
   -- runs after equal firings are the same
   moved : {budget room steps : ℕ} {events : List (Event C)} {why : Stop} {after : Memory P C} (before : Memory P C) (d e : Due C) → d ≡ e →
@@ -111,27 +100,27 @@ module _ {P C : Type 0} (M : Model P C) (horizon : C) (laws : Laws M.time) where
   pub runs_only : {budget room : ℕ} {before : Memory P C} {steps steps' : ℕ} {events events' : List (Event C)} {why why' : Stop} {after after' : Memory P C} →
       Runs M horizon budget room before steps events why after → Runs M horizon budget room before steps' events' why' after' → Same steps steps' events events' why why' after after'
   runs_only {budget} {room} {before} (halts {why = v} h) (halts {why = w} k) =
-      record { same_steps = refl; same_events = refl; same_reason = halt_same w v (decided_only budget room before.places (Halt w) (Halt v) k h); same_memory = refl }
+      record { same_steps = refl; same_events = refl; same_reason = cc (decided_only budget room before.places (Err w) (Err v) k h); same_memory = refl }
   runs_only {budget} {room} {before} (halts {why = v} h) (silent m i ready none r) =
-      absurd (halt_fire v (due_at m i) (decided_only budget room before.places (Halt v) (Fire (due_at m i)) h (ready, λ z. none)))
+      absurd (cc (decided_only budget room before.places (Err v) (Ok (due_at m i)) h (ready, λ z. none)))
   runs_only {budget} {room} {before} (halts {why = v} h) (event m i ready some free r) =
-      absurd (halt_fire v (due_at m i) (decided_only budget room before.places (Halt v) (Fire (due_at m i)) h (ready, λ z. absurd (omega (arith, z, free)))))
+      absurd (cc (decided_only budget room before.places (Err v) (Ok (due_at m i)) h (ready, λ z. absurd (omega (arith, z, free)))))
   runs_only {budget} {room} {before} (silent m i ready none r) (halts {why = v} h) =
-      absurd (halt_fire v (due_at m i) (decided_only budget room before.places (Halt v) (Fire (due_at m i)) h (ready, λ z. none)))
+      absurd (cc (decided_only budget room before.places (Err v) (Ok (due_at m i)) h (ready, λ z. none)))
   runs_only {budget} {room} {before} (event m i ready some free r) (halts {why = v} h) =
-      absurd (halt_fire v (due_at m i) (decided_only budget room before.places (Halt v) (Fire (due_at m i)) h (ready, λ z. absurd (omega (arith, z, free)))))
+      absurd (cc (decided_only budget room before.places (Err v) (Ok (due_at m i)) h (ready, λ z. absurd (omega (arith, z, free)))))
   runs_only {budget} {room} {before} (silent m i ready none r) (silent n j ready' none' r') =
-      let d = fire_same (due_at n j) (due_at m i) (decided_only budget room before.places (Fire (due_at n j)) (Fire (due_at m i)) (ready', λ z. none') (ready, λ z. none)) in
+      let d : due_at n j ≡ due_at m i = cc (decided_only budget room before.places (Ok (due_at n j)) (Ok (due_at m i)) (ready', λ z. none') (ready, λ z. none)) in
       let rest = runs_only r (moved before (due_at n j) (due_at m i) d r') in
       record { same_steps = ap suc rest.same_steps; same_events = rest.same_events; same_reason = rest.same_reason; same_memory = rest.same_memory }
   runs_only {budget} {room} {before} (silent m i ready none r) (event n j ready' some free r') =
-      let d = fire_same (due_at n j) (due_at m i) (decided_only budget room before.places (Fire (due_at n j)) (Fire (due_at m i)) (ready', λ z. absurd (omega (arith, z, free))) (ready, λ z. none)) in
+      let d : due_at n j ≡ due_at m i = cc (decided_only budget room before.places (Ok (due_at n j)) (Ok (due_at m i)) (ready', λ z. absurd (omega (arith, z, free))) (ready, λ z. none)) in
       absurd (omega (arith, none, subst (λ x. 0 < (event_of M before.places x.moment x.part).pins) d some))
   runs_only {budget} {room} {before} (event m i ready some free r) (silent n j ready' none r') =
-      let d = fire_same (due_at n j) (due_at m i) (decided_only budget room before.places (Fire (due_at n j)) (Fire (due_at m i)) (ready', λ z. none) (ready, λ z. absurd (omega (arith, z, free)))) in
+      let d : due_at n j ≡ due_at m i = cc (decided_only budget room before.places (Ok (due_at n j)) (Ok (due_at m i)) (ready', λ z. none) (ready, λ z. absurd (omega (arith, z, free)))) in
       absurd (omega (arith, some, subst (λ x. (event_of M before.places x.moment x.part).pins ≡ 0) d none))
   runs_only {budget} {room} {before} (event m i ready some free r) (event n j ready' some' free' r') =
-      let d = fire_same (due_at n j) (due_at m i) (decided_only budget room before.places (Fire (due_at n j)) (Fire (due_at m i)) (ready', λ z. absurd (omega (arith, z, free))) (ready, λ z. absurd (omega (arith, z, free)))) in
+      let d : due_at n j ≡ due_at m i = cc (decided_only budget room before.places (Ok (due_at n j)) (Ok (due_at m i)) (ready', λ z. absurd (omega (arith, z, free))) (ready, λ z. absurd (omega (arith, z, free)))) in
       let rest = runs_only r (moved before (due_at n j) (due_at m i) d r') in
       record {
         same_steps = ap suc rest.same_steps;

@@ -11,8 +11,7 @@ use Rattle.session.specs.declared.places.Event.{Event}
 use Rattle.session.specs.declared.answers.Refusal.{Refusal}
 use Rattle.session.specs.declared.answers.Stop.{Stop}
 use Rattle.session.specs.declared.answers.Ran.{Ran}
-use Rattle.session.specs.declared.decision.Decision.{Decision}
-use Rattle.session.specs.declared.decision.Decision.TheVariants.{Halt, Fire}
+use Rattle.session.specs.declared.scan.Due.{Due}
 use Rattle.session.specs.declared.answers.Firing.{Firing}
 use Rattle.session.specs.declared.answers.Firing.TheVariants.{Output, Silent}
 
@@ -132,9 +131,9 @@ module _ {P C : Type 0} (M : Model P C) (horizon : C) where
   Halts budget room places why = slice_index_or (⊥ ∷ reasons budget room places) (stop_number why) ⊥
 
   -- what a run does next
-  abbrev pub Decided : ℕ → ℕ → List (Place P C) → Decision C → Type 0
-  Decided budget room places (Halt why) = Halts budget room places why
-  Decided budget room places (Fire d) =
+  abbrev pub Decided : ℕ → ℕ → List (Place P C) → Result (Due C) Stop → Type 0
+  Decided budget room places (Err why) = Halts budget room places why
+  Decided budget room places (Ok d) =
       Ready budget places d.moment d.part × (room ≡ 0 → (event_of M places d.moment d.part).pins ≡ 0)
 
   -- A run from memory `before` with so much budget and so many free records: it takes so many steps, tells these

@@ -1,5 +1,6 @@
 // What the calls of a session answer, and the number of each refusal and each stop reason.
 ghost use Rattle.std.specs.Prelude.{◌≡◌};
+ghost use Rattle.session.specs.Calls.{told};
 ghost use Rattle.session.specs.Numbers.{refusal_number, stop_number};
 
 use crate::places::Event;
@@ -73,6 +74,19 @@ impl Stop {
 pub enum Firing<C> {
     Output(Event<C>),
     Silent(C),
+}
+
+impl<C: Copy> From<Event<C>> for Firing<C> {
+    // a firing with no output pins is silent
+    ghost from_gives = { λ event firing. firing ≡ told event };
+
+    fn from(event: Event<C>) -> Firing<C> {
+        if event.pins == 0 {
+            Firing::Silent(event.moment)
+        } else {
+            Firing::Output(event)
+        }
+    }
 }
 
 // What a run answers: the steps taken, the events written, and why it stopped.

@@ -8,49 +8,42 @@ use crate::scan::Due;
 use clock::clock::Clock;
 use coupling::coupling::{Coupling, Source};
 use coupling::rows::Row;
-use part::part::Part;
+use part::part::{Output, Part};
 
 impl<P: Part<C>, C: Clock> Place<P, C> {
-    // The place after an input; an empty pin set is no input.
-    fn given(self, moment: C, pins: u8, value: u8) -> Place<P, C>
-        ensures takes_the_input { result ≡ given C.Clock.time P.Part.kind moment pins value self }
+    // Takes an input; an empty pin set is no input.
+    fn take(&mut self, moment: C, pins: u8, value: u8)
+        ensures takes_the_input { self.new ≡ given C.Clock.time P.Part.kind moment pins value self.old }
     {
         if pins == 0 {
-            return self;
+            return;
         }
-        let mut part = self.part;
         let elapsed = self.last.gap_to(moment);
-        part.external(elapsed, pins, value);
-        Place { part, last: moment }
+        self.part.external(elapsed, pins, value);
+        self.last = moment;
     }
 
-    // The place after its part has fired.
-    fn fired(self, moment: C) -> Place<P, C>
-        ensures takes_internal { result ≡ record { part = P.Part.kind.internal self.part; last = moment } }
+    // Moves the part on after it has fired.
+    fn move_on(&mut self, moment: C)
+        ensures takes_internal { self.new ≡ record { part = P.Part.kind.internal self.old.part; last = moment } }
     {
-        let mut part = self.part;
-        part.internal();
-        Place { part, last: moment }
+        self.part.internal();
+        self.last = moment;
     }
 }
 
-// Gives each of the first `parts` parts its pin set of the row.
+// Gives each part its pin set of the row.
 pub(crate) fn deliver<P: Part<C>, C: Clock>(
     places: &mut [Place<P, C>],
-    parts: usize,
     row: &Row,
     moment: C,
     value: u8,
 )
-    requires in_range { (parts ≤ length places.old) × (parts ≤ 64) }
-    ensures gives_each_its_set { places.new ≡ delivered C.Clock.time P.Part.kind moment value parts (set_of row.now) places.old }
+    requires in_range { length places.old ≤ 64 }
+    ensures gives_each_its_set { places.new ≡ delivered C.Clock.time P.Part.kind moment value (length places.old) (set_of row.now) places.old }
 {
-    'parts: for part in 0..parts {
-        let pins = row.sets[part];
-        if pins != 0 {
-            let place = places[part];
-            places[part] = place.given(moment, pins, value);
-        }
+    'parts: for (part, place) in places.iter_mut().enumerate() {
+        place.take(moment, row.sets[part], value);
     }
 }
 
@@ -64,16 +57,17 @@ pub(crate) fn fire<P: Part<C>, C: Clock, K: Coupling>(
     ensures tells_the_event { result ≡ event_of (model C.Clock.time P.Part.kind (K.Coupling.wiring coupling.now)) places.old due.moment due.part }
     ensures leaves_it_fired { places.new ≡ fired (model C.Clock.time P.Part.kind (K.Coupling.wiring coupling.now)) places.old due.moment due.part }
 {
-    let place = places[due.part];
-    let output = place.part.output();
-    places[due.part] = place.fired(due.moment);
-    let row = coupling.reach(Source::Part(due.part), output.pins);
-    deliver(places, coupling.parts(), &row, due.moment, output.value);
+    let Due { moment, part } = due;
+    let place = &mut places[part];
+    let Output { pins, value } = place.part.output();
+    place.move_on(moment);
+    let row = coupling.reach(Source::Part(part), pins);
+    deliver(&mut places[..coupling.parts()], &row, moment, value);
     Event {
-        moment: due.moment,
-        part: due.part,
-        pins: output.pins,
-        value: output.value,
+        moment,
+        part,
+        pins,
+        value,
         board: row.board,
     }
 }

@@ -8,3 +8,4 @@ pub mod places;
 pub mod run;
 mod scan;
 pub mod session;
+mod show;

@@ -3,8 +3,8 @@ ghost use Rattle.std.specs.Prelude.{◌≡◌, ℕ, ◌≤◌, length, MatchResu
 ghost use Rattle.session.specs.Machine.{model, memory};
 ghost use Rattle.session.specs.Calls.{Run, RunsTo, Kept, OnlyOutcome, LaterKept, traced};
 
-use crate::answers::{Ran, Refusal};
-use crate::decision::{Decision, decide};
+use crate::answers::{Ran, Refusal, Stop};
+use crate::decision::decide;
 use crate::delivery::fire;
 use crate::places::{Event, Place};
 use crate::session::Session;
@@ -24,28 +24,32 @@ fn firings<P: Part<C>, C: Clock, K: Coupling>(
     requires has_places { (K.Coupling.wiring coupling.now).parts ≤ length places.old }
     ensures runs { Run (model C.Clock.time P.Part.kind (K.Coupling.wiring coupling.now)) horizon budget (traced (memory places.old session.old.now) trace.old) (traced (memory places.new session.new.now) trace.new) result }
 {
-    let mut steps: u16 = 0;
     let mut events: u16 = 0;
-    'firings: loop {
+    'firings: for steps in 0..budget {
         let room = trace.len() - usize::from(events);
-        match decide(coupling, places, horizon, budget - steps, room) {
-            Decision::Halt(stop) => {
+        match decide(&places[..coupling.parts()], horizon, room) {
+            Err(stop) => {
                 return Ran {
                     steps,
                     events,
                     stop,
                 };
             }
-            Decision::Fire(due) => {
+            Ok(due) => {
                 let event = fire(places, coupling, due);
                 session.now = due.moment;
-                steps += 1;
+                // kept: the answer needs the count, so an iterator over the trace would only stand beside it
                 if event.pins > 0 {
                     trace[usize::from(events)] = event;
                     events += 1;
                 }
             }
         }
+    }
+    Ran {
+        steps: budget,
+        events,
+        stop: Stop::Budget,
     }
 }
 

@@ -1,5 +1,5 @@
 // Which part fires next.
-ghost use Rattle.std.specs.Prelude.{◌≡◌, ◌<◌, ◌≤◌, map, length, take, IfSome};
+ghost use Rattle.std.specs.Prelude.{◌≡◌, ◌<◌, map, length, IfSome};
 ghost use Rattle.session.specs.Machine.{due, First};
 ghost use Rattle.session.specs.Scan.{sooner};
 
@@ -19,10 +19,7 @@ impl<P: Part<C>, C: Clock> Place<P, C> {
     fn due_moment(&self) -> Option<C>
         ensures last_moment_plus_advance { result ≡ due C.Clock.time P.Part.kind self.now }
     {
-        match self.part.advance() {
-            Some(span) => Some(self.last.plus(span)),
-            None => None,
-        }
+        self.part.advance().map(|span| self.last.plus(span))
     }
 }
 
@@ -32,22 +29,19 @@ fn sooner_of<C: Clock>(best: Option<Due<C>>, part: usize, moment: Option<C>) -> 
 {
     match (best, moment) {
         (_, None) => best,
-        (None, Some(moment)) => Some(Due { moment, part }),
         (Some(first), Some(moment)) if first.moment.not_after(moment) => best,
-        (Some(_), Some(moment)) => Some(Due { moment, part }),
+        (_, Some(moment)) => Some(Due { moment, part }),
     }
 }
 
-// The imminent one of the first `parts` parts, or nothing where none will ever fire.
-pub(crate) fn imminent<P: Part<C>, C: Clock>(places: &[Place<P, C>], parts: usize) -> Option<Due<C>>
-    requires in_range { parts ≤ length places.now }
-    ensures is_imminent { First C.Clock.time (map (due C.Clock.time P.Part.kind) (take parts places.now)) result }
-    ensures is_one_of_the_parts { IfSome result (λ d. d.part < parts) }
+// The imminent one of the parts in these places, or nothing where none will ever fire.
+pub(crate) fn imminent<P: Part<C>, C: Clock>(places: &[Place<P, C>]) -> Option<Due<C>>
+    ensures is_imminent { First C.Clock.time (map (due C.Clock.time P.Part.kind) places.now) result }
+    ensures is_one_of_the_parts { IfSome result (λ d. d.part < length places.now) }
 {
     let mut best = None;
-    'parts: for part in 0..parts {
-        let moment = places[part].due_moment();
-        best = sooner_of(best, part, moment);
+    'parts: for (part, place) in places.iter().enumerate() {
+        best = sooner_of(best, part, place.due_moment());
     }
     best
 }

@@ -2,11 +2,11 @@
 ghost use Rattle.std.specs.Prelude.{◌≡◌, ◌^◌, ◌≤◌, ◌⊎◌, ◌++◌, map, length, take, drop, MatchBool, MatchResult};
 ghost use Rattle.coupling.specs.declared.coupling.Source.TheVariants.{Board};
 ghost use Rattle.session.specs.Machine.{model, memory, due};
-ghost use Rattle.session.specs.Calls.{Opens, Next, Puts, Steps, Kept, OnlyAnswer, OnlyOutcome, Reached, FiredAlone, DueBefore, told};
+ghost use Rattle.session.specs.Calls.{Opens, Next, Puts, Steps, Kept, OnlyAnswer, OnlyOutcome, Reached, FiredAlone, DueBefore};
 
 use crate::answers::{Firing, Refusal};
 use crate::delivery::{deliver, fire};
-use crate::places::{Event, Place};
+use crate::places::Place;
 use crate::scan::imminent;
 use clock::clock::Clock;
 use coupling::coupling::{Coupling, Source};
@@ -26,14 +26,8 @@ pub fn next<P: Part<C>, C: Clock, K: Coupling>(
     ensures answers_the_earliest { Next (model C.Clock.time P.Part.kind (K.Coupling.wiring coupling.now)) places.now result }
     ensures has_one_outcome { OnlyAnswer (Next (model C.Clock.time P.Part.kind (K.Coupling.wiring coupling.now)) places.now) result }
 {
-    let parts = coupling.parts();
-    if places.len() < parts {
-        return Err(Refusal::TooFewPlaces);
-    }
-    match imminent(places, parts) {
-        Some(due) => Ok(Some(due.moment)),
-        None => Ok(None),
-    }
+    let places = places.get(..coupling.parts()).ok_or(Refusal::TooFewPlaces)?;
+    Ok(imminent(places).map(|due| due.moment))
 }
 
 // Whether a pin set is non-empty, and each of its pins is one of the first `inputs`.
@@ -45,36 +39,23 @@ fn good_pins(pins: u8, inputs: u8) -> bool
 }
 
 // Whether some part is due before the moment.
-fn due_before<P: Part<C>, C: Clock>(places: &[Place<P, C>], parts: usize, moment: C) -> bool
-    requires in_range { parts ≤ length places.now }
-    ensures value { MatchBool result (DueBefore C.Clock.time (map (due C.Clock.time P.Part.kind) (take parts places.now)) moment) (DueBefore C.Clock.time (map (due C.Clock.time P.Part.kind) (take parts places.now)) moment → ⊥) }
+fn due_before<P: Part<C>, C: Clock>(places: &[Place<P, C>], moment: C) -> bool
+    ensures value { MatchBool result (DueBefore C.Clock.time (map (due C.Clock.time P.Part.kind) places.now) moment) (DueBefore C.Clock.time (map (due C.Clock.time P.Part.kind) places.now) moment → ⊥) }
 {
-    match imminent(places, parts) {
-        Some(due) => !moment.not_after(due.moment),
-        None => false,
-    }
+    imminent(places).is_some_and(|due| !moment.not_after(due.moment))
 }
 
-// What a step answers of its event.
-fn tell<C: Clock>(event: Event<C>) -> Firing<C>
-    ensures silent_without_pins { result ≡ told event }
+// Puts each part in its start state.
+fn start<P: Part<C>, C: Clock>(places: &mut [Place<P, C>], starts: &[P])
+    requires one_each { length places.old ≡ length starts.now }
+    ensures starts_each { places.new ≡ map (λ s. record { part = s; last = C.Clock.time.zero }) starts.now }
 {
-    if event.pins == 0 {
-        Firing::Silent(event.moment)
-    } else {
-        Firing::Output(event)
-    }
-}
-
-// Writes the start states to the places of the parts.
-fn start<P: Part<C>, C: Clock>(places: &mut [Place<P, C>], starts: &[P], parts: usize)
-    requires in_range { (parts ≤ length places.old) × (parts ≤ length starts.now) }
-    ensures starts_each { places.new ≡ map (λ s. record { part = s; last = C.Clock.time.zero }) (take parts starts.now) ++ drop parts places.old }
-{
-    let zero = C::zero();
-    'parts: for i in 0..parts {
-        let part = starts[i];
-        places[i] = Place { part, last: zero };
+    let last = C::zero();
+    'parts: for (i, place) in places.iter_mut().enumerate() {
+        *place = Place {
+            part: starts[i],
+            last,
+        };
     }
 }
 
@@ -83,8 +64,7 @@ impl<C: Clock> Session<C> {
     pub fn new() -> Session<C>
         ensures is_at_zero { result.now ≡ C.Clock.time.zero }
     {
-        let now = C::zero();
-        Session { now }
+        Session { now: C::zero() }
     }
 
     // Writes every part's start state to its place, and goes back to moment zero.
@@ -102,7 +82,7 @@ impl<C: Clock> Session<C> {
         if places.len() < parts || starts.len() < parts {
             return Err(Refusal::TooFewPlaces);
         }
-        start(places, starts, parts);
+        start(&mut places[..parts], &starts[..parts]);
         self.now = C::zero();
         Ok(())
     }
@@ -134,11 +114,11 @@ impl<C: Clock> Session<C> {
         if !self.now.not_after(moment) {
             return Err(Refusal::BeforeNow);
         }
-        if due_before(places, parts, moment) {
+        if due_before(&places[..parts], moment) {
             return Err(Refusal::PartDueBefore);
         }
         let row = coupling.reach(Source::Board, pins);
-        deliver(places, parts, &row, moment, value);
+        deliver(&mut places[..parts], &row, moment, value);
         self.now = moment;
         Ok(())
     }
@@ -158,14 +138,11 @@ impl<C: Clock> Session<C> {
         if places.len() < parts {
             return Err(Refusal::TooFewPlaces);
         }
-        let Some(due) = imminent(places, parts) else {
-            return Err(Refusal::NothingDue);
-        };
+        let due = imminent(&places[..parts]).ok_or(Refusal::NothingDue)?;
         if !due.moment.within_ceiling() {
             return Err(Refusal::DueBeyondCeiling);
         }
-        let event = fire(places, coupling, due);
         self.now = due.moment;
-        Ok(tell(event))
+        Ok(Firing::from(fire(places, coupling, due)))
     }
 }

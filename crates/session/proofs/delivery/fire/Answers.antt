@@ -7,12 +7,11 @@ pub returns : goal.returns
 returns g c =
     let M = model g.C.Clock.time g.P.Part.kind (g.K.Coupling.wiring c.args.coupling.now) in
     let within : c.args.due.part < length c.args.places.now = omega arith in
-    let read = c.index-places-due.is in
-    let out = c.output-output.ensures.is_the_output in
     let reaches = c.reach-row.ensures.is_the_union_of_the_rows in
     record {
-      tells_the_event = fire_event M c.args.places.now c.args.due.moment c.args.due.part c.index-places-due.result c.output-output.result c.reach-row.result within read out reaches _ refl;
+      tells_the_event =
+          fire_event M c.args.places.now c.args.due.moment c.args.due.part c.index-places-part.result c.output-pins.result c.reach-row.result within c.output-pins.ensures.is_the_output reaches _ refl;
       leaves_it_fired =
-          fire_places M c.args.places.now c.args.due.moment c.args.due.part c.index-places-due.result c.output-output.result c.reach-row.result within read out reaches
-          c.fired.result c.parts.result _ c.fired.ensures.takes_internal c.parts.ensures.is_the_count c.deliver.ensures.gives_each_its_set;
+          fire_places M c.args.places.now c.args.due.moment c.args.due.part c.index-places-part.result c.output-pins.result c.reach-row.result within c.output-pins.ensures.is_the_output reaches
+          _ c.parts.result c.deliver.new.places c.move_on.ensures.takes_internal c.parts.ensures.is_the_count (omega (arith, c.parts.ensures.is_the_count)) c.deliver.ensures.gives_each_its_set;
     }

@@ -1,5 +1,4 @@
 pub mod Accepted
-pub mod Decisions
 pub mod Deliveries
 pub mod Firings
 pub mod Imminence

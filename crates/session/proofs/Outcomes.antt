@@ -1,5 +1,6 @@
 -- Each call's relation pins its outcome.
 use Rattle.std.proofs.Common.{◌≡◌, ℕ, false, cond, eqb, ◌⊎◌, List, Some, None, Ok, Err, Option, Result, sym, refl, ap, ◌∙◌, subst₂, inl, inr}
+use Rattle.std.specs.Option.{ok_or}
 use Rattle.clock.specs.Time.{Laws}
 use Rattle.session.specs.Machine.{Model, Memory, dues, Imminent, NoneDue, event_of}
 use Rattle.session.specs.Calls.{Asks, Refuses, Kept, OnlyOutcome, Opens, Next, Puts, Steps, told, after_firing}
@@ -28,6 +29,11 @@ named refusal.DueBeyondCeiling = refl
 refused_is : {T : Type 0} (n : ℕ) (r : Result T Refusal) → Refuses n r → r ≡ Err (numbered n)
 refused_is n (Ok x) h = absurd h
 refused_is n (Err e) h = ap Err (sym (named e) ∙ ap numbered h)
+
+-- where there is no value, the error is the given one
+pub no_value : {T E : Type 0} (o : Option T) (e d : E) → Err d ≡ ok_or o e → o ≡ None → d ≡ e
+no_value None e d h n = cc
+no_value (Some x) e d h n = absurd cc
 
 -- the outcomes of one question
 pub asks_only : {T M : Type 0} {bad : Type 0} {before : M} (n : ℕ) (after other : M) (r q : Result T Refusal) {on off : Type 0} →

@@ -11,24 +11,25 @@ use coupling::rows::Row;
 use part::part::{Output, Part};
 
 impl<P: Part<C>, C: Clock> Place<P, C> {
-    // Takes an input; an empty pin set is no input.
-    fn take(&mut self, moment: C, pins: u8, value: u8)
-        ensures takes_the_input { self.new ≡ given C.Clock.time P.Part.kind moment pins value self.old }
+    // The place after an input; an empty pin set is no input.
+    fn given(self, moment: C, pins: u8, value: u8) -> Place<P, C>
+        ensures takes_the_input { result ≡ given C.Clock.time P.Part.kind moment pins value self }
     {
         if pins == 0 {
-            return;
+            return self;
         }
-        let elapsed = self.last.gap_to(moment);
-        self.part.external(elapsed, pins, value);
-        self.last = moment;
+        let mut part = self.part;
+        part.external(self.last.gap_to(moment), pins, value);
+        Place { part, last: moment }
     }
 
-    // Moves the part on after it has fired.
-    fn move_on(&mut self, moment: C)
-        ensures takes_internal { self.new ≡ record { part = P.Part.kind.internal self.old.part; last = moment } }
+    // The place after its part has fired.
+    fn fired(self, moment: C) -> Place<P, C>
+        ensures takes_internal { result ≡ record { part = P.Part.kind.internal self.part; last = moment } }
     {
-        self.part.internal();
-        self.last = moment;
+        let mut part = self.part;
+        part.internal();
+        Place { part, last: moment }
     }
 }
 
@@ -43,7 +44,7 @@ pub(crate) fn deliver<P: Part<C>, C: Clock>(
     ensures gives_each_its_set { places.new ≡ delivered C.Clock.time P.Part.kind moment value (length places.old) (set_of row.now) places.old }
 {
     'parts: for (part, place) in places.iter_mut().enumerate() {
-        place.take(moment, row.sets[part], value);
+        *place = place.given(moment, row.sets[part], value);
     }
 }
 
@@ -58,9 +59,9 @@ pub(crate) fn fire<P: Part<C>, C: Clock, K: Coupling>(
     ensures leaves_it_fired { places.new ≡ fired (model C.Clock.time P.Part.kind (K.Coupling.wiring coupling.now)) places.old due.moment due.part }
 {
     let Due { moment, part } = due;
-    let place = &mut places[part];
+    let place = places[part];
     let Output { pins, value } = place.part.output();
-    place.move_on(moment);
+    places[part] = place.fired(moment);
     let row = coupling.reach(Source::Part(part), pins);
     deliver(&mut places[..coupling.parts()], &row, moment, value);
     Event {

@@ -3,7 +3,7 @@ ghost use Rattle.std.specs.Prelude.{◌≡◌, ℕ, ◌≤◌, length, MatchResu
 ghost use Rattle.session.specs.Machine.{model, memory};
 ghost use Rattle.session.specs.Calls.{Run, RunsTo, Kept, OnlyOutcome, LaterKept, traced};
 
-use crate::answers::{Ran, Refusal, Stop};
+use crate::answers::{Ran, Refusal};
 use crate::decision::decide;
 use crate::delivery::fire;
 use crate::places::{Event, Place};
@@ -24,10 +24,12 @@ fn firings<P: Part<C>, C: Clock, K: Coupling>(
     requires has_places { (K.Coupling.wiring coupling.now).parts ≤ length places.old }
     ensures runs { Run (model C.Clock.time P.Part.kind (K.Coupling.wiring coupling.now)) horizon budget (traced (memory places.old session.old.now) trace.old) (traced (memory places.new session.new.now) trace.new) result }
 {
+    let mut steps: u16 = 0;
     let mut events: u16 = 0;
-    'firings: for steps in 0..budget {
+    // kept: both counts are part of the answer, and one match says when the run stops, so a range or an iterator over the trace would only stand beside them
+    'firings: loop {
         let room = trace.len() - usize::from(events);
-        match decide(&places[..coupling.parts()], horizon, room) {
+        match decide(coupling, places, horizon, budget - steps, room) {
             Err(stop) => {
                 return Ran {
                     steps,
@@ -38,18 +40,13 @@ fn firings<P: Part<C>, C: Clock, K: Coupling>(
             Ok(due) => {
                 let event = fire(places, coupling, due);
                 session.now = due.moment;
-                // kept: the answer needs the count, so an iterator over the trace would only stand beside it
+                steps += 1;
                 if event.pins > 0 {
                     trace[usize::from(events)] = event;
                     events += 1;
                 }
             }
         }
-    }
-    Ran {
-        steps: budget,
-        events,
-        stop: Stop::Budget,
     }
 }
 

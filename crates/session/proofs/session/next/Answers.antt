@@ -5,8 +5,7 @@ use Rattle.session.specs.Machine.{model, due, dues, First}
 use Rattle.session.specs.Calls.{Next, Few}
 use Rattle.session.specs.declared.answers.Refusal.TheVariants as refusal
 use Rattle.session.proofs.Accepted.{next_done, part_got, part_missing}
-use Rattle.session.proofs.Decisions.{no_value}
-use Rattle.session.proofs.Outcomes.{next_only}
+use Rattle.session.proofs.Outcomes.{no_value, next_only}
 use Rattle.session.proofs.session.next.Goals as goal
 
 pub returns-in_err-places : goal.returns-in_err-places

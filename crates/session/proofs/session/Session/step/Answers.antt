@@ -4,8 +4,7 @@ use Rattle.session.specs.Machine.{model, memory, due, dues, First, Imminent, Non
 use Rattle.session.specs.Calls.{Few, told}
 use Rattle.session.specs.declared.answers.Refusal.TheVariants as refusal
 use Rattle.session.proofs.Accepted.{step_idle, step_late, step_done, fired_alone}
-use Rattle.session.proofs.Decisions.{no_value}
-use Rattle.session.proofs.Outcomes.{steps_only}
+use Rattle.session.proofs.Outcomes.{no_value, steps_only}
 use Rattle.session.proofs.session.Session.step.Goals as goal
 
 pub returns-in_err-due : goal.returns-in_err-due

@@ -9,10 +9,10 @@ use Rattle.board.specs.declared.parts.Component.{Component}
 use Rattle.board.specs.declared.pins.Pin.{Pin}
 use Rattle.board.specs.declared.pins.Wire.{Wire}
 use Rattle.board.specs.Wires.{no_block, no_component}
-use Rattle.drawing.specs.Children.{Fits, PartFits, BlockFits, IsChild, Taken, FindsFrom, FindsTo, output, input}
+use Rattle.drawing.specs.Children.{Fits, PartFits, BlockFits, IsChild, Taken, FindsFrom, FindsTo, output, input, called}
 use Rattle.drawing.specs.Lists.{Lists, nothing, with_block, with_component, with_wire}
 use Rattle.drawing.specs.Questions.{Asks, BlockAsked, PartAsked, JoinAsked, WireAsked}
-use Rattle.drawing.specs.Unique.{Unique, called}
+use Rattle.drawing.specs.Unique.{Unique}
 use Rattle.drawing.specs.declared.ends.Found.{Found}
 use Rattle.drawing.specs.declared.ends.Found.TheVariants as found
 use Rattle.drawing.specs.declared.ends.Site.{Site}

@@ -1,5 +1,5 @@
 -- The children of a block, and the pins that a wire end names.
-use Rattle.std.specs.Prelude.{◌≡◌, ℕ, ◌+◌, ◌<◌, ◌≤◌, List, length}
+use Rattle.std.specs.Prelude.{◌≡◌, ℕ, ◌+◌, ◌<◌, ◌≤◌, List, length, slice_index_or}
 use Rattle.names.specs.declared.name.Name.{Name}
 use Rattle.names.specs.Names.{name_text}
 use Rattle.board.specs.declared.parts.Block.{Block}
@@ -11,6 +11,8 @@ use Rattle.board.specs.Wires.{block_at, component_at, wire_at}
 use Rattle.drawing.specs.declared.ends.Wanted.{Wanted}
 use Rattle.drawing.specs.declared.ends.Found.{Found}
 use Rattle.drawing.specs.declared.ends.Found.TheVariants as found
+use Rattle.drawing.specs.declared.ends.Side.{Side}
+use Rattle.drawing.specs.declared.ends.Side.TheVariants as side
 use Rattle.drawing.specs.declared.ends.WireEnd.{WireEnd}
 use Rattle.drawing.specs.declared.ends.WireEnd.TheVariants.{Own, Child}
 
@@ -27,6 +29,19 @@ PartFits w p = Fits w p.block p.name p.ins p.outs
 abbrev pub BlockFits : Wanted → Block → Type 0
 BlockFits w b = Fits w b.parent b.name b.ins b.outs
 
+-- what asks for just this part, or for just this block
+abbrev pub wanted_part : Component → Wanted
+wanted_part p = record { block = p.block; name = p.name; ins = p.ins; outs = p.outs }
+
+abbrev pub wanted_block : Block → Wanted
+wanted_block b = record { block = b.parent; name = b.name; ins = b.ins; outs = b.outs }
+
+-- thing i, from the first that may be a child, is the wanted child
+abbrev pub IsWanted : {C : Type 0} → (C → Wanted) → C → List C → ℕ → Wanted → ℕ → Type 0
+IsWanted asks absent things first w i =
+    let its = asks (slice_index_or things i absent) in
+    (first ≤ i) × (i < length things) × Fits w its.block its.name its.ins its.outs
+
 -- part i is the wanted child
 abbrev pub IsPart : List Component → Wanted → ℕ → Type 0
 IsPart parts w i = (i < length parts) × PartFits w (component_at parts i)
@@ -39,9 +54,13 @@ abbrev pub IsChild : List Block → List Component → Wanted → Found → Type
 IsChild blocks parts w (found.Part i) = IsPart parts w i
 IsChild blocks parts w (found.Block b) = IsBlock blocks w b
 
+-- the child of block b of this name, whatever its pins
+abbrev pub called : ℕ → Name → Wanted
+called b name = record { block = b; name = name; ins = 0; outs = 0 }
+
 -- a child of the block has this name
 abbrev pub Taken : List Block → List Component → ℕ → Name → Type 0
-Taken blocks parts b name = (f : Found) × IsChild blocks parts (record { block = b; name = name; ins = 0; outs = 0 }) f
+Taken blocks parts b name = (f : Found) × IsChild blocks parts (called b name) f
 
 abbrev pub end_pin : WireEnd → ℕ
 end_pin (Own k) = k
@@ -66,6 +85,16 @@ abbrev pub FindsTo : List Block → List Component → ℕ → WireEnd → Pin �
 FindsTo blocks parts b (Own k) p = (k < (block_at blocks b).outs) × (p ≡ BlockOut b k)
 FindsTo blocks parts b (Child name k) p =
     (f : Found) × IsChild blocks parts (record { block = b; name = name; ins = k + 1; outs = 0 }) f × (p ≡ input f k)
+
+-- the pin of a child on this side of a wire: a wire begins at an output, and ends at an input
+abbrev pub child_pin : Side → Found → ℕ → Pin
+child_pin side.From = output
+child_pin side.To = input
+
+-- the pin at which a wire in block b begins, or ends
+abbrev pub Finds : Side → List Block → List Component → ℕ → WireEnd → Pin → Type 0
+Finds side.From = FindsFrom
+Finds side.To = FindsTo
 
 -- the wire is among the wires
 abbrev pub Stands : List Wire → Wire → Type 0

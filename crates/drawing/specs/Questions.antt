@@ -17,22 +17,27 @@ use Rattle.drawing.specs.Lists.{Lists}
 abbrev pub Asks : {T : Type 0} → Type 0 → Fault → Result T Fault → Type 0 → Type 0
 Asks bad fault r goes_on = (bad × (r ≡ Err fault)) ⊎ ((bad → ⊥) × goes_on)
 
+-- of any new child of this block: its pins and its name
+abbrev pub ChildAsked : {T : Type 0} → Lists → ℕ → Name → ℕ → ℕ → Result T Fault → Type 0 → Type 0
+ChildAsked l block name ins outs r goes_on =
+    Asks ((8 < ins) ⊎ (8 < outs)) BadPins r
+    (Asks (Taken l.blocks l.components block name) NameTaken r
+    goes_on)
+
 -- of a block at this site: the block that is to be added
 abbrev pub BlockAsked : Lists → Site → Name → ℕ → ℕ → Result Block Fault → Type 0
 BlockAsked l site name ins outs r =
-    Asks ((8 < ins) ⊎ (8 < outs)) BadPins r
-    (Asks (Taken l.blocks l.components site.parent name) NameTaken r
+    ChildAsked l site.parent name ins outs r
     (Asks (32 ≤ length l.blocks) TooManyBlocks r
     (Asks (8 ≤ site.depth) TooDeep r
-    (r ≡ Ok (record { name = name; parent = site.parent; depth = site.depth + 1; ins = ins; outs = outs })))))
+    (r ≡ Ok (record { name = name; parent = site.parent; depth = site.depth + 1; ins = ins; outs = outs }))))
 
 -- of a part in this block: the component that is to be added
 abbrev pub PartAsked : Lists → ℕ → Name → ℕ → ℕ → Result Component Fault → Type 0
 PartAsked l block name ins outs r =
-    Asks ((8 < ins) ⊎ (8 < outs)) BadPins r
-    (Asks (Taken l.blocks l.components block name) NameTaken r
+    ChildAsked l block name ins outs r
     (Asks (64 ≤ length l.components) TooManyParts r
-    (r ≡ Ok (record { name = name; block = block; ins = ins; outs = outs }))))
+    (r ≡ Ok (record { name = name; block = block; ins = ins; outs = outs })))
 
 -- of a wire between two pins: whether it may be added
 abbrev pub JoinAsked : List Wire → Wire → Result Wire Fault → Type 0

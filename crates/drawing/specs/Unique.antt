@@ -2,16 +2,11 @@
 use Rattle.std.specs.Prelude.{◌≡◌, ℕ, Err, Result, ◌≢◌}
 use Rattle.names.specs.declared.name.Name.{Name}
 use Rattle.drawing.specs.declared.ends.Found.{Found}
-use Rattle.drawing.specs.declared.ends.Wanted.{Wanted}
 use Rattle.drawing.specs.declared.fault.Fault.{Fault}
 use Rattle.drawing.specs.declared.fault.Fault.TheVariants.{Memory}
 use Rattle.drawing.specs.Calls.{Sheet}
-use Rattle.drawing.specs.Children.{IsChild}
+use Rattle.drawing.specs.Children.{IsChild, called}
 use Rattle.drawing.specs.Lists.{Lists}
-
--- the child of block b of this name, whatever its pins
-abbrev pub called : ℕ → Name → Wanted
-called b name = record { block = b; name = name; ins = 0; outs = 0 }
 
 -- both are children of one block, and have one name
 pub record Namesakes (l : Lists) (f g : Found) : Type 0 where

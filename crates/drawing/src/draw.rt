@@ -1,15 +1,16 @@
 // Drawing a board.
-ghost use Rattle.std.specs.Prelude.{◌≡◌, MatchResult};
+ghost use Rattle.std.specs.Prelude.{◌≡◌, Some, None, MatchResult};
 ghost use Rattle.drawing.specs.declared.fault.Fault.TheVariants.{Misplaced};
 ghost use Rattle.drawing.specs.Calls.{sheet, blank, next_site, outer, OpensBlock, AddsPart, AddsWire, ClosesBlock, Kept, Finished, Unfinished};
 ghost use Rattle.drawing.specs.Lists.{lists, nothing};
 ghost use Rattle.drawing.specs.Unique.{Unique, OnlyOutcome};
 
 use crate::drawing::Drawing;
-use crate::ends::{Site, WireEnd};
+use crate::ends::{Heading, Site, WireEnd};
 use crate::fault::Fault;
+use crate::inside::Inside;
 use crate::put::{put_block, put_component, put_wire};
-use crate::questions::{block_at, component_in, wire_in};
+use crate::questions::block_at;
 use board::nested::Board;
 use board::plan::Plan;
 use names::name::Name;
@@ -40,20 +41,17 @@ impl<P: Drop> Drawing<P> {
     fn next_site(&self) -> Option<Site>
         ensures value { result ≡ next_site self.now.plan.blocks.items self.now.current }
     {
-        match self.current {
-            Some(block) => {
-                let depth = self.plan.blocks[block].depth;
-                Some(Site {
-                    parent: block,
-                    depth,
-                })
-            }
-            None if self.plan.blocks.is_empty() => Some(Site {
+        if self.plan.blocks.is_empty() {
+            return Some(Site {
                 parent: 0,
                 depth: 0,
-            }),
-            None => None,
+            });
         }
+        let parent = self.current?;
+        Some(Site {
+            parent,
+            depth: self.plan.blocks[parent].depth,
+        })
     }
 
     // Opens a block in the open block; the first block is the board.
@@ -62,10 +60,8 @@ impl<P: Drop> Drawing<P> {
         ensures refusal_changes_nothing { Kept (sheet self.old) (sheet self.new) result }
         ensures has_one_outcome { OnlyOutcome (OpensBlock name ins outs (sheet self.old)) (sheet self.new) result }
     {
-        let Some(site) = self.next_site() else {
-            return Err(Fault::Misplaced);
-        };
-        let block = block_at(&self.plan, site, name, ins, outs)?;
+        let site = self.next_site().ok_or(Fault::Misplaced)?;
+        let block = block_at(&self.plan, site, Heading { name, ins, outs })?;
         let number = self.plan.blocks.len();
         put_block(&mut self.plan, block)?;
         self.current = Some(number);
@@ -78,14 +74,8 @@ impl<P: Drop> Drawing<P> {
         ensures refusal_changes_nothing { Kept (sheet self.old) (sheet self.new) result }
         ensures has_one_outcome { OnlyOutcome (ClosesBlock (sheet self.old)) (sheet self.new) result }
     {
-        let Some(block) = self.current else {
-            return Err(Fault::Misplaced);
-        };
-        if block == 0 {
-            self.current = None;
-        } else {
-            self.current = Some(self.plan.blocks[block].parent);
-        }
+        let block = self.current.ok_or(Fault::Misplaced)?;
+        self.current = (block != 0).then_some(self.plan.blocks[block].parent);
         Ok(())
     }
 
@@ -95,10 +85,12 @@ impl<P: Drop> Drawing<P> {
         ensures refusal_changes_nothing { Kept (sheet self.old) (sheet self.new) result }
         ensures has_one_outcome { OnlyOutcome (AddsPart name ins outs start (sheet self.old)) (sheet self.new) result }
     {
-        let Some(block) = self.current else {
-            return Err(Fault::Misplaced);
+        let block = self.current.ok_or(Fault::Misplaced)?;
+        let inside = Inside {
+            plan: &self.plan,
+            block,
         };
-        let component = component_in(&self.plan, block, name, ins, outs)?;
+        let component = inside.component(Heading { name, ins, outs })?;
         self.starts.reserve(1)?;
         put_component(&mut self.plan, component)?;
         self.starts.push_reserved(start);
@@ -111,10 +103,12 @@ impl<P: Drop> Drawing<P> {
         ensures refusal_changes_nothing { Kept (sheet self.old) (sheet self.new) result }
         ensures has_one_outcome { Unique (sheet self.old).plan → OnlyOutcome (AddsWire from to (sheet self.old)) (sheet self.new) result }
     {
-        let Some(block) = self.current else {
-            return Err(Fault::Misplaced);
-        };
-        let wire = wire_in(&self.plan, block, from, to)?;
+        let block = self.current.ok_or(Fault::Misplaced)?;
+        let wire = Inside {
+            plan: &self.plan,
+            block,
+        }
+        .wire(from, to)?;
         put_wire(&mut self.plan, wire)
     }
 
@@ -125,11 +119,7 @@ impl<P: Drop> Drawing<P> {
         if self.current.is_some() || self.plan.blocks.is_empty() {
             return Err(self);
         }
-        let Drawing {
-            plan,
-            starts,
-            current: _,
-        } = self;
+        let Drawing { plan, starts, .. } = self;
         Ok(Board { plan, starts })
     }
 }

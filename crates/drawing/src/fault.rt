@@ -30,6 +30,7 @@ pub enum Fault {
     Memory,
 }
 
+// kept: by hand, since clauses of the callers read `from_gives`, and a derive promises nothing of it
 impl From<AllocError> for Fault {
     ghost from_gives = { λ _ r. r ≡ Memory };
 
@@ -48,6 +49,7 @@ impl<T: Drop> From<AllocFailed<T>> for Fault {
 
 impl Fault {
     // The number of the question that the call failed; 0 where it is none.
+    // kept: 0, and no Option: it is a public promise, and what programs print
     pub fn number(self) -> u8
         ensures is_the_number { result ≡ fault_number self }
     {

@@ -6,5 +6,6 @@ pub mod drawing;
 pub mod ends;
 pub mod fault;
 mod find;
+mod inside;
 mod put;
 mod questions;

@@ -1,4 +1,5 @@
 // Adding to a plan what was asked about.
+// kept: three functions, and no generic one: each asks for what its own list of the plan promises, and keeps that
 ghost use Rattle.std.specs.Prelude.{◌≡◌, ◌<◌, ◌≤◌, true, vec_len, MatchResult};
 ghost use Rattle.board.specs.Wires.{sound_wire};
 ghost use Rattle.drawing.specs.declared.fault.Fault.TheVariants.{Memory};
@@ -16,8 +17,7 @@ pub(crate) fn put_block(plan: &mut Plan, block: Block) -> Result<(), Fault>
     requires parent_first { 0 < vec_len plan.old.blocks → block.parent < vec_len plan.old.blocks }
     ensures puts_it_or_refuses { MatchResult result (λ _. lists plan.new ≡ with_block (lists plan.old) block) (λ e. (e ≡ Memory) × (lists plan.new ≡ lists plan.old)) }
 {
-    plan.blocks.push(block)?;
-    Ok(())
+    Ok(plan.blocks.push(block)?)
 }
 
 pub(crate) fn put_component(plan: &mut Plan, component: Component) -> Result<(), Fault>
@@ -26,8 +26,7 @@ pub(crate) fn put_component(plan: &mut Plan, component: Component) -> Result<(),
     requires in_a_block { component.block < vec_len plan.old.blocks }
     ensures puts_it_or_refuses { MatchResult result (λ _. lists plan.new ≡ with_component (lists plan.old) component) (λ e. (e ≡ Memory) × (lists plan.new ≡ lists plan.old)) }
 {
-    plan.components.push(component)?;
-    Ok(())
+    Ok(plan.components.push(component)?)
 }
 
 pub(crate) fn put_wire(plan: &mut Plan, wire: Wire) -> Result<(), Fault>
@@ -36,6 +35,5 @@ pub(crate) fn put_wire(plan: &mut Plan, wire: Wire) -> Result<(), Fault>
     requires once { Stands plan.old.wires.items wire → ⊥ }
     ensures puts_it_or_refuses { MatchResult result (λ _. lists plan.new ≡ with_wire (lists plan.old) wire) (λ e. (e ≡ Memory) × (lists plan.new ≡ lists plan.old)) }
 {
-    plan.wires.push(wire)?;
-    Ok(())
+    Ok(plan.wires.push(wire)?)
 }

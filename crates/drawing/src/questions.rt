@@ -1,14 +1,15 @@
 // The questions of each call, in their order.
-ghost use Rattle.std.specs.Prelude.{◌≡◌, ℕ, ◌<◌, vec_len, Decides, MatchOption};
+ghost use Rattle.std.specs.Prelude.{◌≡◌, ℕ, ◌<◌, Ok, Decides, MatchOption};
 ghost use Rattle.board.specs.declared.pins.Pin.{Pin};
 ghost use Rattle.board.specs.Wires.{apart};
-ghost use Rattle.drawing.specs.Children.{Taken, FindsFrom, FindsTo, end_pin};
+ghost use Rattle.drawing.specs.Children.{Taken, Finds, end_pin};
 ghost use Rattle.drawing.specs.Lists.{lists};
-ghost use Rattle.drawing.specs.Questions.{BlockAsked, PartAsked, JoinAsked, WireAsked};
+ghost use Rattle.drawing.specs.Questions.{BlockAsked, PartAsked, ChildAsked, JoinAsked, WireAsked};
 
-use crate::ends::{Found, Site, Wanted, WireEnd};
+use crate::ends::{Heading, Side, Site, Wanted, WireEnd};
 use crate::fault::Fault;
 use crate::find::{find_child, has_wire};
+use crate::inside::Inside;
 use board::parts::{Block, Component};
 use board::pins::{Pin, Wire};
 use board::plan::Plan;
@@ -18,30 +19,26 @@ use names::name::Name;
 fn taken(plan: &Plan, block: usize, name: Name) -> bool
     ensures value { Decides result (Taken plan.now.blocks.items plan.now.components.items block name) }
 {
-    let wanted = Wanted {
-        block,
-        name,
-        ins: 0,
-        outs: 0,
-    };
-    find_child(&plan.blocks, &plan.components, &wanted).is_some()
+    find_child(plan, &Wanted::called(block, name)).is_some()
 }
 
-pub(crate) fn block_at(
-    plan: &Plan,
-    site: Site,
-    name: Name,
-    ins: u8,
-    outs: u8,
-) -> Result<Block, Fault>
-    ensures asks_in_order { BlockAsked (lists plan.now) site name ins outs result }
+// The questions of any new child of the block.
+fn ask_of_child(plan: &Plan, block: usize, child: Heading) -> Result<(), Fault>
+    ensures asks_in_order { ChildAsked (lists plan.now) block child.name child.ins child.outs result (result ≡ Ok tt) }
 {
-    if ins > 8 || outs > 8 {
+    if child.ins > 8 || child.outs > 8 {
         return Err(Fault::BadPins);
     }
-    if taken(plan, site.parent, name) {
+    if taken(plan, block, child.name) {
         return Err(Fault::NameTaken);
     }
+    Ok(())
+}
+
+pub(crate) fn block_at(plan: &Plan, site: Site, child: Heading) -> Result<Block, Fault>
+    ensures asks_in_order { BlockAsked (lists plan.now) site child.name child.ins child.outs result }
+{
+    ask_of_child(plan, site.parent, child)?;
     if plan.blocks.len() >= 32 {
         return Err(Fault::TooManyBlocks);
     }
@@ -49,96 +46,12 @@ pub(crate) fn block_at(
         return Err(Fault::TooDeep);
     }
     Ok(Block {
-        name,
+        name: child.name,
         parent: site.parent,
         depth: site.depth + 1,
-        ins,
-        outs,
+        ins: child.ins,
+        outs: child.outs,
     })
-}
-
-pub(crate) fn component_in(
-    plan: &Plan,
-    block: usize,
-    name: Name,
-    ins: u8,
-    outs: u8,
-) -> Result<Component, Fault>
-    ensures asks_in_order { PartAsked (lists plan.now) block name ins outs result }
-{
-    if ins > 8 || outs > 8 {
-        return Err(Fault::BadPins);
-    }
-    if taken(plan, block, name) {
-        return Err(Fault::NameTaken);
-    }
-    if plan.components.len() >= 64 {
-        return Err(Fault::TooManyParts);
-    }
-    Ok(Component {
-        name,
-        block,
-        ins,
-        outs,
-    })
-}
-
-// The pin at which a wire in the block begins.
-fn find_from(plan: &Plan, block: usize, end: WireEnd) -> Option<Pin>
-    requires in_range { (block < vec_len plan.now.blocks) × (end_pin end < 8) }
-    ensures finds_it { MatchOption result ((p : Pin) → FindsFrom plan.now.blocks.items plan.now.components.items block end p → ⊥) (λ p. FindsFrom plan.now.blocks.items plan.now.components.items block end p) }
-{
-    match end {
-        WireEnd::Own { pin } => {
-            if pin < plan.blocks[block].ins {
-                Some(Pin::BlockIn { block, pin })
-            } else {
-                None
-            }
-        }
-        WireEnd::Child { name, pin } => {
-            let wanted = Wanted {
-                block,
-                name,
-                ins: 0,
-                outs: pin + 1,
-            };
-            match find_child(&plan.blocks, &plan.components, &wanted) {
-                Some(Found::Part(part)) => Some(Pin::PartOut { part, pin }),
-                Some(Found::Block(block)) => Some(Pin::BlockOut { block, pin }),
-                None => None,
-            }
-        }
-    }
-}
-
-// The pin at which a wire in the block ends.
-fn find_to(plan: &Plan, block: usize, end: WireEnd) -> Option<Pin>
-    requires in_range { (block < vec_len plan.now.blocks) × (end_pin end < 8) }
-    ensures finds_it { MatchOption result ((p : Pin) → FindsTo plan.now.blocks.items plan.now.components.items block end p → ⊥) (λ p. FindsTo plan.now.blocks.items plan.now.components.items block end p) }
-{
-    match end {
-        WireEnd::Own { pin } => {
-            if pin < plan.blocks[block].outs {
-                Some(Pin::BlockOut { block, pin })
-            } else {
-                None
-            }
-        }
-        WireEnd::Child { name, pin } => {
-            let wanted = Wanted {
-                block,
-                name,
-                ins: pin + 1,
-                outs: 0,
-            };
-            match find_child(&plan.blocks, &plan.components, &wanted) {
-                Some(Found::Part(part)) => Some(Pin::PartIn { part, pin }),
-                Some(Found::Block(block)) => Some(Pin::BlockIn { block, pin }),
-                None => None,
-            }
-        }
-    }
 }
 
 // Whether a wire joins two things.
@@ -146,11 +59,11 @@ fn are_apart(from: Pin, to: Pin) -> bool
     ensures value { result ≡ apart from to }
 {
     match (from, to) {
-        (Pin::PartOut { part: i, pin: _ }, Pin::PartIn { part: j, pin: _ }) => i != j,
-        (Pin::BlockOut { block: b, pin: _ }, Pin::BlockIn { block: d, pin: _ }) => b != d,
-        (Pin::PartIn { part: _, pin: _ }, _) => false,
-        (_, Pin::PartOut { part: _, pin: _ }) => false,
-        (Pin::BlockIn { block: _, pin: _ }, Pin::BlockOut { block: _, pin: _ }) => false,
+        (Pin::PartOut { part: i, .. }, Pin::PartIn { part: j, .. }) => i != j,
+        (Pin::BlockOut { block: b, .. }, Pin::BlockIn { block: d, .. }) => b != d,
+        (Pin::PartIn { .. }, _)
+        | (_, Pin::PartOut { .. })
+        | (Pin::BlockIn { .. }, Pin::BlockOut { .. }) => false,
         (_, _) => true,
     }
 }
@@ -168,21 +81,66 @@ fn joined(wires: &[Wire], wire: Wire) -> Result<Wire, Fault>
     Ok(wire)
 }
 
-pub(crate) fn wire_in(plan: &Plan, block: usize, from: WireEnd, to: WireEnd) -> Result<Wire, Fault>
-    requires in_range { block < vec_len plan.now.blocks }
-    ensures asks_in_order { WireAsked (lists plan.now) block from to result }
-{
-    if from.pin() >= 8 || to.pin() >= 8 {
-        return Err(Fault::BadPins);
+impl Inside<'_> {
+    pub(crate) fn component(self, child: Heading) -> Result<Component, Fault>
+        ensures asks_in_order { PartAsked (lists self.entry.plan.now) self.entry.block child.name child.ins child.outs result }
+    {
+        ask_of_child(self.plan, self.block, child)?;
+        if self.plan.components.len() >= 64 {
+            return Err(Fault::TooManyParts);
+        }
+        Ok(Component {
+            name: child.name,
+            block: self.block,
+            ins: child.ins,
+            outs: child.outs,
+        })
     }
-    if plan.wires.len() >= 256 {
-        return Err(Fault::TooManyWires);
+
+    // The pin at which a wire in the block begins, or ends.
+    fn pin_at(self, side: Side, end: WireEnd) -> Option<Pin>
+        requires in_range { end_pin end < 8 }
+        ensures finds_it { let found = Finds side self.entry.plan.now.blocks.items self.entry.plan.now.components.items self.entry.block end in MatchOption result ((p : Pin) → found p → ⊥) found }
+    {
+        let block = self.block;
+        let own = self.plan.blocks[block];
+        match (end, side) {
+            (WireEnd::Own { pin }, Side::From) => (pin < own.ins).then_some(Pin::BlockIn {
+                block,
+                pin,
+            }),
+            (WireEnd::Own { pin }, Side::To) => (pin < own.outs).then_some(Pin::BlockOut {
+                block,
+                pin,
+            }),
+            (WireEnd::Child { name, pin }, _) => {
+                let called = Wanted::called(block, name);
+                let wanted = match side {
+                    Side::From => Wanted {
+                        outs: pin + 1,
+                        ..called
+                    },
+                    Side::To => Wanted {
+                        ins: pin + 1,
+                        ..called
+                    },
+                };
+                Some(find_child(self.plan, &wanted)?.pin(side, pin))
+            }
+        }
     }
-    let Some(from) = find_from(plan, block, from) else {
-        return Err(Fault::NoFrom);
-    };
-    let Some(to) = find_to(plan, block, to) else {
-        return Err(Fault::NoTo);
-    };
-    joined(&plan.wires, Wire { from, to })
+
+    pub(crate) fn wire(self, from: WireEnd, to: WireEnd) -> Result<Wire, Fault>
+        ensures asks_in_order { WireAsked (lists self.entry.plan.now) self.entry.block from to result }
+    {
+        if from.pin() >= 8 || to.pin() >= 8 {
+            return Err(Fault::BadPins);
+        }
+        if self.plan.wires.len() >= 256 {
+            return Err(Fault::TooManyWires);
+        }
+        let from = self.pin_at(Side::From, from).ok_or(Fault::NoFrom)?;
+        let to = self.pin_at(Side::To, to).ok_or(Fault::NoTo)?;
+        joined(&self.plan.wires, Wire { from, to })
+    }
 }

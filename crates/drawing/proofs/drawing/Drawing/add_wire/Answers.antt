@@ -1,48 +1,20 @@
-use Rattle.std.proofs.Common.{◌<◌, length, Ok, Err, vec_items, refl, ap, ◌∙◌, inl, inr, ⊎_elim, arith}
+use Rattle.std.proofs.Common.{Ok, Err, vec_items, refl, ap, ◌∙◌, inr}
 use Rattle.std.proofs.lemmas.Result.{err_from_is_err_and}
-use Rattle.drawing.specs.Calls.{Sheet, AddsWire, sheet}
-use Rattle.drawing.specs.Lists.{lists}
-use Rattle.drawing.proofs.Added.{addable, put_outcome, short_kept, added_kept}
+use Rattle.drawing.specs.Calls.{sheet}
+use Rattle.drawing.proofs.Added.{put_outcome}
 use Rattle.drawing.proofs.Outcomes.{wire_only}
 use Rattle.drawing.proofs.drawing.Drawing.add_wire.Goals as goal
 
-pub returns-in_err-wire : goal.returns-in_err-wire
-returns-in_err-wire g c =
+pub returns-in_err-wire-clause-has_one_outcome : goal.returns-in_err-wire-clause-has_one_outcome
+returns-in_err-wire-clause-has_one_outcome g c u =
     let s = sheet c.args.self.now in
-    let p = err_from_is_err_and c.from_residual.result c.from_residual.ensures.1 in
-    let h : AddsWire c.args.from c.args.to s s c.from_residual.result =
-    inr (c.in-Some.block, Err c.in_err-wire.field-0.0, c.in-Some.is, c.in_err-wire.ensures.asks_in_order, (p.1 ∙ ap Err p.2, refl)) in
-    record { adds_the_wire_or_refuses = h; refusal_changes_nothing = short_kept s s _ _ p.1 refl; has_one_outcome = λ u. wire_only s s _ _ _ u h }
+    let p = err_from_is_err_and c.from_residual-in_err-wire.result c.from_residual-in_err-wire.ensures.1 in
+    wire_only s s _ _ _ u (inr (c.in_ok-block.block, Err c.in_err-wire.field-0.0, c.in_ok-block.ensures.ok_part, c.in_err-wire.ensures.asks_in_order, (p.1 ∙ ap Err p.2, refl)))
 
-pub put_wire-requires : goal.put_wire-requires
-put_wire-requires g c =
-    let p = c.args.self.now.plan in
-    let inside : c.in-Some.block < length (vec_items p.blocks) = omega (arith, c.args.self.now.open_is_there c.in-Some.block c.in-Some.is, p.blocks.ok.0) in
-    let fits = addable (lists p) c.in-Some.block c.args.from c.args.to c.in_ok-wire.wire inside c.in_ok-wire.ensures.asks_in_order in
-    record { room = omega (arith, fits.room, p.wires.ok.0); sound = fits.sound; once = fits.once }
-
-pub returns : goal.returns
-returns g c =
+pub returns-clause-adds_the_wire_or_refuses : goal.returns-clause-adds_the_wire_or_refuses
+returns-clause-adds_the_wire_or_refuses g c =
     let d = c.args.self.now in
-    let out = put_outcome (lists c.put_wire.new.plan) _ c.put_wire.result (lists d.plan) c.put_wire.ensures.puts_it_or_refuses in
-    let after : Sheet g.row.P.Denot = record { plan = lists c.put_wire.new.plan; starts = vec_items d.starts; current = d.current } in
-    let h : AddsWire c.args.from c.args.to (sheet d) after c.put_wire.result =
-    inr (
-      c.in-Some.block,
-      Ok c.in_ok-wire.wire,
-      c.in-Some.is,
-      c.in_ok-wire.ensures.asks_in_order,
-      ⊎_elim
-          (λ h. inl (h.0, (λ i. record { plan = h.1 i; starts = vec_items d.starts; current = d.current })))
-          (λ h. inr (h.0, (λ i. record { plan = h.1 i; starts = vec_items d.starts; current = d.current })))
-          out,
-    ) in
-    record {
-      adds_the_wire_or_refuses = h;
-      refusal_changes_nothing =
-          ⊎_elim
-          (λ h. short_kept (sheet d) after _ _ h.0 (λ i. record { plan = h.1 i; starts = vec_items d.starts; current = d.current }))
-          (λ h. added_kept (sheet d) after _ h.0)
-          out;
-      has_one_outcome = λ u. wire_only (sheet d) after _ _ _ u h;
-    }
+    inr (c.in_ok-block.block, Ok c.in_ok-wire.wire, c.in_ok-block.ensures.ok_part, c.in_ok-wire.ensures.asks_in_order, put_outcome (vec_items d.starts) d.current _ _ _ _ c.put_wire.ensures.puts_it_or_refuses)
+
+pub returns-clause-has_one_outcome : goal.returns-clause-has_one_outcome
+returns-clause-has_one_outcome g c u = wire_only _ _ _ _ _ u (returns-clause-adds_the_wire_or_refuses g c)

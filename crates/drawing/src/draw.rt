@@ -1,6 +1,5 @@
 // Drawing a board.
-ghost use Rattle.std.specs.Prelude.{◌≡◌, Some, None, MatchResult};
-ghost use Rattle.drawing.specs.declared.fault.Fault.TheVariants.{Misplaced};
+ghost use Rattle.std.specs.Prelude.{◌≡◌, MatchResult};
 ghost use Rattle.drawing.specs.Calls.{sheet, blank, next_site, outer, OpensBlock, AddsPart, AddsWire, ClosesBlock, Kept, Finished, Unfinished};
 ghost use Rattle.drawing.specs.Lists.{lists, nothing};
 ghost use Rattle.drawing.specs.Unique.{Unique, OnlyOutcome};
@@ -104,11 +103,11 @@ impl<P: Drop> Drawing<P> {
         ensures has_one_outcome { Unique (sheet self.old).plan → OnlyOutcome (AddsWire from to (sheet self.old)) (sheet self.new) result }
     {
         let block = self.current.ok_or(Fault::Misplaced)?;
-        let wire = Inside {
+        let inside = Inside {
             plan: &self.plan,
             block,
-        }
-        .wire(from, to)?;
+        };
+        let wire = inside.wire(from, to)?;
         put_wire(&mut self.plan, wire)
     }
 

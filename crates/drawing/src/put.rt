@@ -1,5 +1,5 @@
 // Adding to a plan what was asked about.
-// kept: three functions, and no generic one: each asks for what its own list of the plan promises, and keeps that
+// kept: three functions, since a generic one needs a trait that says what each list asks of its item, and is longer
 ghost use Rattle.std.specs.Prelude.{◌≡◌, ◌<◌, ◌≤◌, true, vec_len, MatchResult};
 ghost use Rattle.board.specs.Wires.{sound_wire};
 ghost use Rattle.drawing.specs.declared.fault.Fault.TheVariants.{Memory};

@@ -1,6 +1,7 @@
 // The kinds of parts that a netlist names.
-ghost use Rattle.std.specs.Prelude.{◌≡◌, MatchOption, ◌≢◌};
 ghost use Rattle.grammar.specs.Fields.{kind_word};
+
+use crate::word::Word;
 
 #[derive(Clone, Copy, PartialEq, Eq, Debug)]
 pub(crate) enum KindWord {
@@ -9,12 +10,11 @@ pub(crate) enum KindWord {
     Line,
 }
 
-impl KindWord {
-    // The kind that a word names.
-    pub(crate) fn named(word: &[u8]) -> Option<KindWord>
-        ensures names_it_or_refuses { MatchOption result ((k : KindWord) → kind_word k ≢ word.now) (λ k. kind_word k ≡ word.now) }
-    {
-        match word {
+impl Word for KindWord {
+    ghost spelling = { kind_word };
+
+    fn named(text: &[u8]) -> Option<KindWord> {
+        match text {
             b"gen" => Some(KindWord::Gen),
             b"uart" => Some(KindWord::Uart),
             b"line" => Some(KindWord::Line),

@@ -10,3 +10,4 @@ pub mod numbers;
 pub mod rules;
 pub mod statement;
 mod text;
+pub mod word;

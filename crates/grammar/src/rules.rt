@@ -15,6 +15,7 @@ use crate::field::Fields;
 use crate::kinds::KindWord;
 use crate::statement::{Header, PartKind, Statement};
 use crate::text::fields_in;
+use crate::word::Word;
 
 // How many fields a line has, if its text is one of a line.
 fn tidy(line: &[u8], number: usize) -> Result<usize, TextFault>

@@ -1,5 +1,5 @@
 -- A number, digit by digit.
-use Rattle.std.proofs.Common.{◌≡◌, ℕ, ◌+◌, ◌-◌, ◌*◌, ◌^◌, ◌<◌, ◌≤◌, ◌⊎◌, List, length, get_or, take, decimal, refl, ap, ◌∙◌, subst, ⊎_elim, arith}
+use Rattle.std.proofs.Common.{◌≡◌, ℕ, ◌+◌, ◌-◌, ◌*◌, ◌^◌, ◌<◌, ◌≤◌, ◌⊎◌, List, length, get_or, take, decimal, refl, sym, ap, ◌∙◌, subst, ⊎_elim, arith}
 use native.Mathlib.Nat.{pow-le-pow_right}
 use Rattle.std.proofs.lemmas.Bool.Decides.{nat_tests}
 use Rattle.std.specs.Str.Parse.{AllDigits, digits_value}
@@ -7,7 +7,8 @@ use Rattle.std.specs.Char.{digit_value as digitValue}
 use Rattle.std.proofs.lemmas.List.{take_all, length-take-le}
 use Rattle.std.proofs.lemmas.Str.Parse.{IsNumeralModel, numerals_by_value, tells_digits, digit_at}
 use Rattle.std.proofs.lemmas.Int.Digits.{digits_value_more, digits_more, digits_value-lt}
-use Rattle.std.proofs.lemmas.Fmt.{decimal-digits_value, decimal_is_IsNumeral, decimal_digit, length-decimal-le, first_decimal, decimal_nonempty}
+use Rattle.grammar.specs.Fields.{Numeral}
+use Rattle.std.proofs.lemmas.Fmt.{decimal_injective, decimal-digits_value, decimal_is_IsNumeral, decimal_digit, length-decimal-le, first_decimal, decimal_nonempty}
 use Rattle.std.proofs.lemmas.Bool.{cases_lt}
 
 -- the bytes below i are digits, and value is the number that they write
@@ -74,3 +75,10 @@ done text i n h all some few first =
     let bound : 10 ^ length text ≤ 10 ^ 10 = pow-le-pow_right positive few in
     let below : digits_value 10 text < 10000000000 = omega (arith, digits_value-lt 10 text digits) in
     (omega arith, ap decimal read ∙ decimal-digits_value own text digits some (λ z. omega (arith, first z)) (omega arith))
+
+-- a text writes one number
+pub read_number : (low high v w : ℕ) (text : List ℕ) → (w < 10000000000) × (decimal w ≡ text) → Numeral low high v text → high ≤ 65535 → v ≡ w
+read_number low high v w text read n fits =
+    let most = n.at_most in
+    let few = read.0 in
+    decimal_injective v w (omega arith) (omega arith) (n.written ∙ sym read.1)

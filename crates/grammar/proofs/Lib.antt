@@ -1,7 +1,7 @@
 pub mod Asking
 pub mod Counting
-pub mod Forms
 pub mod LineRules
+pub mod Lining
 pub mod Pointing
 pub mod Rejoining
 pub mod Splitting

@@ -1,111 +1,53 @@
--- The rules of lines, by their fields.
-use Rattle.std.proofs.Common.{◌≡◌, ℕ, ◌+◌, List, [], ◌∷◌, length, get_or, Ok, Err, Result, sym, refl, ap, ◌∙◌, subst, inl, inr, arith}
+-- The rules of the lines that have a name.
+use Rattle.std.proofs.Common.{◌≡◌, ℕ, ◌+◌, List, [], ◌∷◌, length, drop, Ok, Err, Result, sym, refl, ap, ◌∙◌, subst, inl, inr, arith}
+use Rattle.std.proofs.lemmas.List.{nil_from_length}
 use Rattle.names.specs.declared.name.Name.{Name}
-use Rattle.drawing.specs.declared.ends.WireEnd.{WireEnd}
+use Rattle.grammar.specs.declared.fault.LineFault.{LineFault}
+use Rattle.grammar.specs.declared.fault.LineFault.TheVariants.{BadField}
 use Rattle.grammar.specs.declared.fault.Verdict.{Verdict}
-use Rattle.grammar.specs.declared.statement.Statement.{Statement}
-use Rattle.grammar.specs.declared.statement.Statement.TheVariants.{Open, Part, Wire, Close}
-use Rattle.grammar.specs.Fields.{Numeral, EndOf, kind_word}
+use Rattle.grammar.specs.declared.field.Fields.{Fields}
 use Rattle.grammar.specs.declared.kinds.KindWord.{KindWord}
-use Rattle.grammar.specs.declared.kinds.KindWord.TheVariants as word
-use Rattle.grammar.specs.declared.statement.Header.{Header}
 use Rattle.grammar.specs.declared.statement.PartKind.{PartKind}
-use Rattle.grammar.specs.declared.statement.PartKind.TheVariants as kind
-use Rattle.grammar.specs.Reading.{IsName}
-use Rattle.grammar.specs.Rules.{Form, Formed, first, numbers_of, BlockLine, PartLine, WireLine, EndLine, CountsLine, KindSays}
-use Rattle.grammar.specs.Statements.{letter_N, letter_B, letter_P, letter_W, letter_E}
-use Rattle.grammar.specs.Verdicts.{of_line}
+use Rattle.grammar.specs.declared.statement.Statement.{Statement}
+use Rattle.grammar.specs.declared.statement.Statement.TheVariants.{Open, Part}
+use Rattle.grammar.specs.Fields.{IsName, Numeral, kind_word}
+use Rattle.grammar.specs.Pieces.{left}
+use Rattle.grammar.specs.Rules.{first, block_forms, Form, a_number, Formed, numbers_of, Says, BlockLine, PartLine, KindSays}
+use Rattle.grammar.specs.Statements.{letter_B, letter_P}
+use Rattle.grammar.specs.Taking.{Takes, Next}
+use Rattle.grammar.specs.Verdicts.{line_verdict}
 
-module _ (n : ℕ) (r : Result Statement Verdict) where
-  pub block_ins : (all rest : List (List ℕ)) (w f g : List ℕ) (name : Name) → all ≡ w ∷ f ∷ g ∷ rest → length all ≡ 4 → IsName name f → ((v : ℕ) → Numeral 0 8 v g → ⊥) →
-      r ≡ Err (of_line 4 n 3) → BlockLine all n r
-  block_ins all rest w f g name e four named none v =
-      subst (λ fs. BlockLine fs n r) (sym e) (inr ((λ bad. bad (ap length (sym e) ∙ four)), inr ((λ no_name. no_name (name, named.0, named.1)), inl ((λ m. none m.0 m.1), v))))
+-- the name of a block is read, and then its numbers
+pub block_named : (n : ℕ) (all : List (List ℕ)) (w : List ℕ) (before after : Fields) (name : Name) (r : Result Statement Verdict) → length all ≡ 4 → all ≡ w ∷ left 32 before.words.rest → before.line ≡ n →
+    Next IsName before after (Ok name) → Formed (a_number 0 8 ∷ a_number 0 8 ∷ []) (left 32 after.words.rest) 3 after.line r (Says all r) → BlockLine all n r
+block_named n all w before after name r four e line h goes =
+    let cut : all ≡ w ∷ h.text ∷ left 32 after.words.rest = e ∙ ap (λ t. w ∷ t) h.takes.cut in
+    let numbers : Formed (a_number 0 8 ∷ a_number 0 8 ∷ []) (drop 2 all) 3 n r (Says all r) =
+        subst (λ m. Formed (a_number 0 8 ∷ a_number 0 8 ∷ []) (drop 2 all) 3 m r (Says all r)) (h.takes.line ∙ line)
+        (subst (λ fs. Formed (a_number 0 8 ∷ a_number 0 8 ∷ []) fs 3 after.line r (Says all r)) (ap (drop 2) (sym cut)) goes) in
+    inr ((λ bad. bad four), subst (λ fs. Formed block_forms fs 2 n r (Says all r)) (ap (drop 1) (sym cut)) (inr ((λ none. none (name, h.reads)), subst (λ fs. Formed (a_number 0 8 ∷ a_number 0 8 ∷ []) fs 3 n r (Says all r)) (ap (drop 2) cut) numbers)))
 
-  pub block_outs : (all rest : List (List ℕ)) (w f g h : List ℕ) (name : Name) (ins : ℕ) → all ≡ w ∷ f ∷ g ∷ h ∷ rest → length all ≡ 4 → IsName name f → Numeral 0 8 ins g → ((v : ℕ) → Numeral 0 8 v h → ⊥) →
-      r ≡ Err (of_line 4 n 4) → BlockLine all n r
-  block_outs all rest w f g h name ins e four named is-ins none v =
-      subst (λ fs. BlockLine fs n r) (sym e)
-      (inr ((λ bad. bad (ap length (sym e) ∙ four)), inr ((λ no_name. no_name (name, named.0, named.1)), inr ((λ no-ins. no-ins (ins, is-ins)), inl ((λ m. none m.0 m.1), v)))))
+-- a number is read, or is none
+module _ {T : Type 0} (low high : ℕ) (before after : Fields) (forms : List Form) (k : ℕ) (r : Result T Verdict) (on : Type 0) where
+  pub number_read : (v : ℕ) → Next (Numeral low high) before after (Ok v) → Formed forms (left 32 after.words.rest) (k + 1) after.line r on →
+      Formed (a_number low high ∷ forms) (left 32 before.words.rest) k before.line r on
+  number_read v h goes =
+      subst (λ fs. Formed (a_number low high ∷ forms) fs k before.line r on) (sym h.takes.cut)
+      (inr ((λ none. none (v, h.reads)), subst (λ n. Formed forms (left 32 after.words.rest) (k + 1) n r on) h.takes.line goes))
 
-  pub block_said : (all rest : List (List ℕ)) (w f g h : List ℕ) (name : Name) (ins outs : ℕ) → all ≡ w ∷ f ∷ g ∷ h ∷ rest → length all ≡ 4 → w ≡ letter_B → IsName name f → Numeral 0 8 ins g → Numeral 0 8 outs h →
-      r ≡ Ok (Open name ins outs) → BlockLine all n r
-  block_said all (x ∷ rest) w f g h name ins outs e four letter named is-ins is-outs v = absurd (omega (arith, ap length e))
-  block_said all [] w f g h name ins outs e four letter named is-ins is-outs v =
-      let wi = is-ins.written in
-      let wo = is-outs.written in
-      subst (λ fs. BlockLine fs n r) (sym e)
-      (inr (
-        (λ bad. bad (ap length (sym e) ∙ four)),
-        inr (
-          (λ no_name. no_name (name, named.0, named.1)),
-          inr (
-            (λ no-ins. no-ins (ins, is-ins)),
-            inr ((λ no-outs. no-outs (outs, is-outs)), (Open name ins outs, (is-ins.at_most, is-outs.at_most, named.0), (let text = named.1 in cc), v)),
-          ),
-        ),
-      ))
+  pub no_number : (e : LineFault) → Next (Numeral low high) before after (Err e) → before.read + 1 ≡ k → r ≡ Err (line_verdict e) →
+      Formed (a_number low high ∷ forms) (left 32 before.words.rest) k before.line r on
+  no_number e h at v =
+      let place : e ≡ BadField before.line k = h.reads.1 ∙ (λ i. BadField (h.takes.line i) ((h.takes.count ∙ at) i)) in
+      subst (λ fs. Formed (a_number low high ∷ forms) fs k before.line r on) (sym h.takes.cut) (inl ((λ m. h.reads.0 m.0 m.1), v ∙ ap (λ x. Err (line_verdict x)) place))
 
-  pub wire_said : (all rest : List (List ℕ)) (w f g : List ℕ) (from to : WireEnd) → all ≡ w ∷ f ∷ g ∷ rest → length all ≡ 3 → w ≡ letter_W → EndOf from f → EndOf to g → r ≡ Ok (Wire from to) → WireLine all n r
-  wire_said all (x ∷ rest) w f g from to e three letter is-from is-to v = absurd (omega (arith, ap length e))
-  wire_said all [] w f g from to e three letter is-from is-to v =
-      let wf = is-from.written in
-      let wt = is-to.written in
-      subst (λ fs. WireLine fs n r) (sym e)
-      (inr (
-        (λ bad. bad (ap length (sym e) ∙ three)),
-        inr ((λ no-from. no-from (from, is-from)), inr ((λ no-to. no-to (to, is-to)), (Wire from to, (is-from.pin, is-to.pin, is-from.spelled, is-to.spelled), (cc), v))),
-      ))
-
-  pub end_said : (all : List (List ℕ)) → length all ≡ 1 → first all ≡ letter_E → r ≡ Ok Close → EndLine all n r
-  end_said [] one letter v = absurd (omega arith)
-  end_said (w ∷ x ∷ all) one letter v = absurd (omega arith)
-  end_said (w ∷ []) one letter v = inr ((λ bad. bad one), (Close, tt, (λ i. sym letter i ∷ []), v))
-
-pub counts_said : (n : ℕ) (all rest : List (List ℕ)) (w f g h : List ℕ) (x : Header) → all ≡ w ∷ f ∷ g ∷ h ∷ rest → length all ≡ 4 → w ≡ letter_N →
-    Numeral 0 256 x.blocks f → Numeral 0 256 x.parts g → Numeral 0 256 x.wires h → CountsLine all n (Ok x)
-counts_said n all (y ∷ rest) w f g h x e four letter is-blocks is-parts is-wires = absurd (omega (arith, ap length e))
-counts_said n all [] w f g h x e four letter is-blocks is-parts is-wires =
-    let wb = is-blocks.written in
-    let wp = is-parts.written in
-    let ww = is-wires.written in
-    subst (λ fs. CountsLine fs n (Ok x)) (sym e)
-    (inr (
-      (λ bad. bad (ap length (sym e) ∙ four)),
-      inr (
-        (λ none. none (x.blocks, is-blocks)),
-        inr (
-          (λ none. none (x.parts, is-parts)),
-          inr ((λ none. none (x.wires, is-wires)), (x, (is-blocks.at_most, is-parts.at_most, is-wires.at_most), (cc), refl)),
-        ),
-      ),
-    ))
-
--- the numbers after each kind word
-pub gen_said : (n : ℕ) (all rest : List (List ℕ)) (f g h : List ℕ) (p v s : ℕ) → all ≡ f ∷ g ∷ h ∷ rest → length all ≡ 3 → Numeral 1 65535 p f → Numeral 0 255 v g → Numeral 0 255 s h →
-    KindSays word.Gen all n (Ok (kind.Gen p v s))
-gen_said n all (y ∷ rest) f g h p v s e three is-p is-v is-s = absurd (omega (arith, ap length e))
-gen_said n all [] f g h p v s e three is-p is-v is-s =
-    let wp = is-p.written in
-    let wv = is-v.written in
-    let ws = is-s.written in
-    subst (λ fs. KindSays word.Gen fs n (Ok (kind.Gen p v s))) (sym e)
-    (inr (
-      (λ none. none (p, is-p)),
-      inr ((λ none. none (v, is-v)), inr ((λ none. none (s, is-s)), (kind.Gen p v s, (is-p.at_least, is-p.at_most, is-v.at_most, is-s.at_most), (cc), refl))),
-    ))
-
-pub uart_said : (n : ℕ) (all rest : List (List ℕ)) (f : List ℕ) (b : ℕ) → all ≡ f ∷ rest → length all ≡ 1 → Numeral 1 65535 b f → KindSays word.Uart all n (Ok (kind.Uart b))
-uart_said n all (y ∷ rest) f b e one is_b = absurd (omega (arith, ap length e))
-uart_said n all [] f b e one is_b =
-    let wb = is_b.written in
-    subst (λ fs. KindSays word.Uart fs n (Ok (kind.Uart b))) (sym e) (inr ((λ none. none (b, is_b)), (kind.Uart b, (is_b.at_least, is_b.at_most), (cc), refl)))
-
-pub line_said : (n : ℕ) (all rest : List (List ℕ)) (f : List ℕ) (d : ℕ) → all ≡ f ∷ rest → length all ≡ 1 → Numeral 0 65535 d f → KindSays word.Line all n (Ok (kind.Line d))
-line_said n all (y ∷ rest) f d e one is-d = absurd (omega (arith, ap length e))
-line_said n all [] f d e one is-d =
-    let wd = is-d.written in
-    subst (λ fs. KindSays word.Line fs n (Ok (kind.Line d))) (sym e) (inr ((λ none. none (d, is-d)), (kind.Line d, is-d.at_most, (cc), refl)))
+-- a block whose name and numbers are read
+pub block_said : (all : List (List ℕ)) (f0 f1 f2 f3 : Fields) (name : Name) (ins outs : ℕ) → length all ≡ 4 → all ≡ first all ∷ left 32 f0.words.rest → first all ≡ letter_B →
+    Next IsName f0 f1 (Ok name) → Next (Numeral 0 8) f1 f2 (Ok ins) → Next (Numeral 0 8) f2 f3 (Ok outs) → Says all (Ok (Open name ins outs))
+block_said all f0 f1 f2 f3 name ins outs four e letter a b c =
+    let last : left 32 f3.words.rest ≡ [] = nil_from_length (left 32 f3.words.rest) (omega (arith, ap length e, ap length a.takes.cut, ap length b.takes.cut, ap length c.takes.cut)) in
+    let here = e ∙ ap (λ t. first all ∷ t) (a.takes.cut ∙ ap (λ t. a.text ∷ t) (b.takes.cut ∙ ap (λ t. b.text ∷ t) (c.takes.cut ∙ ap (λ t. c.text ∷ t) last))) in
+    (Open name ins outs, (b.reads.at_most, c.reads.at_most, a.reads.spelled), (λ i. sym letter i ∷ a.reads.written i ∷ b.reads.written i ∷ c.reads.written i ∷ []) ∙ sym here, refl)
 
 -- fields of the same forms, where the answer is made from theirs
 pub formed_maps : {S T : Type 0} (forms : List Form) (fs : List (List ℕ)) (k n : ℕ) (r : Result S Verdict) (q : Result T Verdict) (on off : Type 0) →
@@ -115,14 +57,17 @@ formed_maps (form ∷ forms) [] k n r q on off errs goes h = h
 formed_maps (form ∷ forms) (f ∷ fs) k n r q on off errs goes (inl h) = inl (h.0, errs _ h.1)
 formed_maps (form ∷ forms) (f ∷ fs) k n r q on off errs goes (inr h) = inr (h.0, formed_maps forms fs (k + 1) n r q on off errs goes h.1)
 
--- the kind word and the name are read, and then the numbers
-pub part_goes : (n : ℕ) (all rest : List (List ℕ)) (w f g : List ℕ) (name : Name) (k : KindWord) (r : Result PartKind Verdict) (q : Result Statement Verdict) →
-    all ≡ w ∷ f ∷ g ∷ rest → w ≡ letter_P → kind_word k ≡ get_or all 2 [] → length all ≡ 3 + length (numbers_of k) → IsName name f →
-    ((v : Verdict) → r ≡ Err v → q ≡ Err v) → ((x : PartKind) → r ≡ Ok x → q ≡ Ok (Part name x)) → KindSays k rest n r → PartLine all n q
-part_goes n all rest w f g name k r q e letter is-kind many named errs oks h =
-    let third : kind_word k ≡ g = is-kind ∙ ap (λ fs. get_or fs 2 []) e in
-    let long : length (w ∷ f ∷ g ∷ rest) ≡ 3 + length (numbers_of k) = ap length (sym e) ∙ many in
-    subst (λ fs. PartLine fs n q) (sym e)
+-- the kind word and the name of a part are read, and then its numbers
+pub part_goes : (n : ℕ) (all : List (List ℕ)) (f g : List ℕ) (f0 f1 f2 : Fields) (name : Name) (k : KindWord) (r : Result PartKind Verdict) (q : Result Statement Verdict) →
+    all ≡ first all ∷ left 32 f0.words.rest → f0.line ≡ n → first all ≡ letter_P → Takes f0 f f1 → Takes f1 g f2 → kind_word k ≡ g → length all ≡ 3 + length (numbers_of k) → IsName name f →
+    ((v : Verdict) → r ≡ Err v → q ≡ Err v) → ((x : PartKind) → r ≡ Ok x → q ≡ Ok (Part name x)) → KindSays k (left 32 f2.words.rest) f2.line r → PartLine all n q
+part_goes n all f g f0 f1 f2 name k r q e line letter one two third many named errs oks h =
+    let w = first all in
+    let rest = left 32 f2.words.rest in
+    let here : all ≡ w ∷ f ∷ g ∷ rest = e ∙ ap (λ t. w ∷ t) (one.cut ∙ ap (λ t. f ∷ t) two.cut) in
+    let says : KindSays k rest n r = subst (λ m. KindSays k rest m r) (two.line ∙ one.line ∙ line) h in
+    let long : length (w ∷ f ∷ g ∷ rest) ≡ 3 + length (numbers_of k) = ap length (sym here) ∙ many in
+    subst (λ fs. PartLine fs n q) (sym here)
     (inr (
       (λ few. omega arith),
       inr (
@@ -133,9 +78,9 @@ part_goes n all rest w f g name k r q e letter is-kind many named errs oks h =
           inr (
             (λ bad. bad long),
             inr (
-              (λ none. none (name, named.0, named.1)),
+              (λ none. none (name, named)),
               formed_maps (numbers_of k) rest 4 n r q _ _ errs
-                  (λ says. (Part name says.0, (says.1, named.0), (λ i. sym letter i ∷ named.1 i ∷ (says.2 ∙ ap (λ t. t ∷ rest) third) i), oks says.0 says.3)) h,
+                  (λ s. (Part name s.0, (s.1, named.spelled), (λ i. sym letter i ∷ named.written i ∷ (s.2 ∙ ap (λ t. t ∷ rest) third) i), oks s.0 s.3)) says,
             ),
           ),
         ),

@@ -60,6 +60,10 @@ onto_some : (b : ℕ) (fs : List (List ℕ)) → 0 < length (onto b fs)
 onto_some b [] = omega arith
 onto_some b (f ∷ fs) = omega arith
 
+onto_few : (b : ℕ) (fs : List (List ℕ)) → length (onto b fs) ≤ length fs + 1
+onto_few b [] = omega arith
+onto_few b (f ∷ fs) = omega arith
+
 -- there is always a piece
 pub split_some : (sep : ℕ) (text : List ℕ) → 0 < length (split sep text)
 split_some sep [] = omega arith
@@ -67,6 +71,15 @@ split_some sep (b ∷ text) =
     ⊎_elim
     (λ e. omega (arith, ap length (split_here sep b text e)))
     (λ ne. omega (arith, ap length (split_onto sep b text ne), onto_some b (split sep text)))
+    (cases_eq b sep)
+
+-- and no more than the separators and one
+pub split_few : (sep : ℕ) (text : List ℕ) → length (split sep text) ≤ length text + 1
+split_few sep [] = omega arith
+split_few sep (b ∷ text) =
+    ⊎_elim
+    (λ e. omega (arith, ap length (split_here sep b text e), split_few sep text))
+    (λ ne. omega (arith, ap length (split_onto sep b text ne), onto_few b (split sep text), split_few sep text))
     (cases_eq b sep)
 
 pub rejoined_split : (sep : ℕ) (text : List ℕ) → join_with_byte sep (split sep text) ≡ text

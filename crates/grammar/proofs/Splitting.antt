@@ -1,6 +1,11 @@
 -- How a text is split.
-use Rattle.std.proofs.Common.{◌≡◌, ℕ, zero, suc, ◌+◌, ◌<◌, ◌≤◌, eqb, List, [], ◌∷◌, length, get_or, take, drop, Some, None, Option, sym, refl, ap, ◌∙◌, add-one, arith, Bor}
-use Rattle.std.proofs.lemmas.Bool.{eq-eqb, ne_eqb, cond-true, cond-false}
+use Rattle.std.proofs.Common.{◌≡◌, ℕ, zero, suc, ◌+◌, ◌<◌, ◌≤◌, eqb, List, [], ◌∷◌, length, get_or, take, drop, Some, None, Option, sym, refl, ap, ◌∙◌, ⊎_elim, add-one, arith, Bor}
+use Rattle.std.proofs.lemmas.Bool.{cases_lt, both_ways, lt-ltb, eq-eqb, eqb-true, ne_eqb, cond-true, cond-false}
+use Rattle.std.proofs.lemmas.List.Quantifiers.{position-Some}
+use Rattle.std.specs.Prelude.{Bool, not, ◌==◌}
+use Rattle.std.specs.List.{position, prefix_len}
+use Rattle.std.proofs.lemmas.List.Sums.{prefix_len_passes}
+use Rattle.std.proofs.lemmas.Option.{none-some}
 use Rattle.grammar.specs.Lines.{Words}
 use Rattle.std.proofs.lemmas.List.{length-take-le, length-drop}
 use Rattle.grammar.specs.Pieces.{onto, split, left, more, Parts}
@@ -36,12 +41,24 @@ pub record Sofar (line piece : List ℕ) (rest : Option (Bor (List ℕ))) (count
   pub bounded : count + more rest ≤ 81
 
 -- the first piece is what stands before the first separator
-pub found : (separator : ℕ) (text : List ℕ) (i : ℕ) (piece : List ℕ) (rest : Bor (List ℕ)) → i < length text → Lacks separator text i → get_or text i 0 ≡ separator →
+pub cut_at : (separator : ℕ) (text : List ℕ) (i : ℕ) (piece : List ℕ) (rest : Bor (List ℕ)) → Some i ≡ position (λ b. b == separator) text →
     piece ≡ take i text → rest.now ≡ drop (i + 1) text → Parts separator text piece (Some rest)
-found separator text i piece rest l none here e f = record {
-  pieces = split_at separator text i l none here ∙ (λ j. sym e j ∷ split separator (drop (sym (add-one i) j) text)) ∙ ap (λ t. piece ∷ split separator t) (sym f);
-  bytes = omega (arith, ap length e, ap length f, length-take-le i text (omega arith), length-drop (i + 1) text);
-}
+cut_at separator text i piece rest first e f =
+    let p = position-Some (λ b. b == separator) text i 0 (sym first) in
+    let none : Lacks separator text i = λ k h same. both_ways (eqb (get_or text k 0) separator) (p.2 k h) (eq-eqb _ _ same) in
+    let l = p.0 in
+    record {
+      pieces = split_at separator text i l none (eqb-true _ _ p.1) ∙ (λ j. sym e j ∷ split separator (drop (sym (add-one i) j) text)) ∙ ap (λ t. piece ∷ split separator t) (sym f);
+      bytes = omega (arith, ap length e, ap length f, length-take-le i text (omega arith), length-drop (i + 1) text);
+    }
 
-pub whole : (separator : ℕ) (text : List ℕ) (i : ℕ) → length text ≤ i → Lacks separator text i → Parts separator text text None
-whole separator text i l none = record { pieces = split_none separator text (λ k h. none k (omega arith)); bytes = omega arith }
+none_at : (separator : ℕ) (text : List ℕ) → None ≡ position (λ b. b == separator) text → Lacks separator text (length text)
+none_at separator text none k l e =
+    let other : ℕ → Bool = λ b. not (b == separator) in
+    ⊎_elim
+    (λ (h : k < prefix_len other text). both_ways (other (get_or text k 0)) (ap not (eq-eqb _ _ e)) (prefix_len_passes other text k 0 h))
+    (λ (h : prefix_len other text ≤ k). none-some _ (none ∙ cond-true _ _ _ (lt-ltb (prefix_len other text) (length text) (omega arith))))
+    (cases_lt k (prefix_len other text))
+
+pub cut_nowhere : (separator : ℕ) (text : List ℕ) → None ≡ position (λ b. b == separator) text → Parts separator text text None
+cut_nowhere separator text none = record { pieces = split_none separator text (none_at separator text none); bytes = omega arith }

@@ -11,7 +11,7 @@ use Rattle.names.specs.declared.name.Name.{Name}
 use Rattle.drawing.specs.Children.{end_pin}
 use Rattle.drawing.specs.declared.ends.WireEnd.{WireEnd}
 use Rattle.drawing.specs.declared.ends.WireEnd.TheVariants.{Own, Child}
-use Rattle.grammar.specs.Fields.{Numeral, EndOf, EndSpelled, kind_word, end_text}
+use Rattle.grammar.specs.Fields.{IsName, Numeral, EndOf, EndSpelled, kind_word, end_text}
 use Rattle.grammar.specs.Lines.{Word, Words, Tidy}
 use Rattle.grammar.specs.Pieces.{split}
 use Rattle.grammar.specs.Rules.{block_forms, wire_forms, count_forms, Heads, first, numbers_of, Says, BlockLine, PartLine, WireLine, ByLetter, ItemLine, BoardLine, CountsLine, HeaderLine}
@@ -199,6 +199,9 @@ module _ (h : Header) (range : HeaderInRange h) where
   pub header_tidy : Tidy (join_with_byte 32 (header_fields h))
   header_tidy = line_tidy (header_fields h) (fits_header h range)
 
+named : (name : Name) → Spelled name → (n : Name) × IsName n (name_text name)
+named name s = (name, record { spelled = s; written = refl })
+
 numeral : (low high v : ℕ) → low ≤ v → v ≤ high → (w : ℕ) × Numeral low high w (decimal v)
 numeral low high v l h = (v, record { at_least = l; at_most = h; written = refl })
 
@@ -208,7 +211,7 @@ ending e pin s = (e, record { spelled = s; pin = pin; written = refl })
 block_written : (name : Name) (ins outs n : ℕ) → InRange (Open name ins outs) → BlockLine (fields_of (Open name ins outs)) n (Ok (Open name ins outs))
 block_written name ins outs n range =
     let st = Open name ins outs in
-    let met : Met block_forms (drop 1 (fields_of st)) = ((name, range.2, refl), (numeral 0 8 ins (omega arith) range.0, (numeral 0 8 outs (omega arith) range.1, tt))) in
+    let met : Met block_forms (drop 1 (fields_of st)) = (named name range.2, (numeral 0 8 ins (omega arith) range.0, (numeral 0 8 outs (omega arith) range.1, tt))) in
     inr ((λ bad. bad refl), formed_met block_forms (drop 1 (fields_of st)) 2 n (Ok st) (Says (fields_of st) (Ok st)) met (st, range, refl, refl))
 
 wire_written : (from to : WireEnd) (n : ℕ) → InRange (Wire from to) → WireLine (fields_of (Wire from to)) n (Ok (Wire from to))
@@ -250,7 +253,7 @@ part_written name k n range =
           s.starts,
           inr (
             (λ bad. let counts = s.counts in bad (omega arith)),
-            inr ((λ bad. bad (name, range.1, refl)), formed_met (numbers_of w) rest 4 n (Ok st) (Says (fields_of st) (Ok st)) s.numbers says),
+            inr ((λ bad. bad (named name range.1)), formed_met (numbers_of w) rest 4 n (Ok st) (Says (fields_of st) (Ok st)) s.numbers says),
           ),
         ),
       ),

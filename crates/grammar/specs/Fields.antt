@@ -1,11 +1,17 @@
 -- What a field writes: a number, a kind word, a name or a wire end.
 use Rattle.std.specs.Prelude.{◌≡◌, ℕ, ◌+◌, ◌<◌, ◌≤◌, List, [], ◌∷◌, ◌++◌, decimal}
+use Rattle.names.specs.declared.name.Name.{Name}
 use Rattle.names.specs.Names.{name_text, Spelled}
 use Rattle.drawing.specs.declared.ends.WireEnd.{WireEnd}
 use Rattle.drawing.specs.declared.ends.WireEnd.TheVariants.{Own, Child}
 use Rattle.drawing.specs.Children.{end_pin}
 use Rattle.grammar.specs.declared.kinds.KindWord.{KindWord}
 use Rattle.grammar.specs.declared.kinds.KindWord.TheVariants.{Gen, Uart, Line}
+
+-- the text is the name's, which is made of it alone
+pub record IsName (n : Name) (text : List ℕ) : Type 0 where
+  pub spelled : Spelled n
+  pub written : name_text n ≡ text
 
 -- the text writes v, which is between low and high, without a leading zero
 pub record Numeral (low high v : ℕ) (text : List ℕ) : Type 0 where

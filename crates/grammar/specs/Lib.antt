@@ -4,4 +4,5 @@ pub mod Pieces
 pub mod Reading
 pub mod Rules
 pub mod Statements
+pub mod Taking
 pub mod Verdicts

@@ -1,7 +1,6 @@
 -- The questions that are asked of a line, in their order.
 use Rattle.std.specs.Prelude.{◌≡◌, ℕ, ◌+◌, ◌<◌, ◌⊎◌, List, [], ◌∷◌, length, drop, Ok, Err, Result, ◌≢◌, slice_index_or}
 use Rattle.names.specs.declared.name.Name.{Name}
-use Rattle.names.specs.Names.{name_text, Spelled}
 use Rattle.drawing.specs.declared.ends.WireEnd.{WireEnd}
 use Rattle.grammar.specs.declared.fault.Verdict.{Verdict}
 use Rattle.grammar.specs.declared.kinds.KindWord.{KindWord}
@@ -9,7 +8,7 @@ use Rattle.grammar.specs.declared.kinds.KindWord.TheVariants as word
 use Rattle.grammar.specs.declared.statement.Header.{Header}
 use Rattle.grammar.specs.declared.statement.PartKind.{PartKind}
 use Rattle.grammar.specs.declared.statement.Statement.{Statement}
-use Rattle.grammar.specs.Fields.{Numeral, EndOf, kind_word}
+use Rattle.grammar.specs.Fields.{IsName, Numeral, EndOf, kind_word}
 use Rattle.grammar.specs.Lines.{Tidy}
 use Rattle.grammar.specs.Pieces.{split}
 use Rattle.grammar.specs.Statements.{letter_N, letter_B, letter_P, letter_W, letter_E, kind_fields, fields_of, header_fields, KindInRange, InRange, HeaderInRange}
@@ -26,7 +25,7 @@ pub data Form : Type 0 where
   an_end : Form
 
 abbrev pub Meets : Form → List ℕ → Type 0
-Meets a_name f = (n : Name) × Spelled n × (name_text n ≡ f)
+Meets a_name f = (n : Name) × IsName n f
 Meets (a_number low high) f = (v : ℕ) × Numeral low high v f
 Meets an_end f = (e : WireEnd) × EndOf e f
 

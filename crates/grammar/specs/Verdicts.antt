@@ -1,11 +1,19 @@
 -- The number, the line, the field and the layer of each fault of a text or a line.
-use Rattle.std.specs.Prelude.{ℕ, Ok, Err, Result}
+use Rattle.std.specs.Prelude.{ℕ, List, Ok, Err, Result, codes}
 use Rattle.grammar.specs.declared.fault.Verdict.{Verdict}
 use Rattle.grammar.specs.declared.fault.TextFault.{TextFault}
 use Rattle.grammar.specs.declared.fault.TextFault.TheVariants.{BadSize, BadText}
 use Rattle.grammar.specs.declared.fault.LineFault.{LineFault}
 use Rattle.grammar.specs.declared.fault.LineFault.TheVariants as fault
+use Rattle.grammar.specs.declared.fault.Layer.{Layer}
 use Rattle.grammar.specs.declared.fault.Layer.TheVariants as layer
+
+-- how a layer is printed
+abbrev pub layer_word : Layer → List ℕ
+layer_word layer.Text = codes "text"
+layer_word layer.Line = codes "line"
+layer_word layer.Block = codes "block"
+layer_word layer.Board = codes "board"
 
 -- questions 1 and 2
 abbrev pub of_text : ℕ → ℕ → ℕ → Verdict

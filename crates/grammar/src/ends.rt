@@ -1,5 +1,5 @@
 // The ends of a wire as a netlist writes them.
-ghost use Rattle.std.specs.Prelude.{◌≡◌, ℕ, List, [], ◌∷◌, Decides, MatchOption};
+ghost use Rattle.std.specs.Prelude.{ℕ, List, MatchOption};
 ghost use Rattle.grammar.specs.Fields.{Pointed, EndOf};
 
 use drawing::ends::WireEnd;
@@ -24,26 +24,14 @@ fn pinned_of(text: &[u8]) -> Option<Pinned<'_>>
     }
 }
 
-// Whether a text is a hyphen, which stands for the block itself.
-fn is_hyphen(text: &[u8]) -> bool
-    ensures value { Decides result (text.now ≡ 45 ∷ []) }
-{
-    matches!(text, [b'-'])
-}
-
-// The wire end that a text writes: a child's name or a hyphen, a point, and a pin digit.
+// The wire end that a text writes: a child's name, or a hyphen for the block itself; a point; and a pin digit.
 pub(crate) fn wire_end(text: &[u8]) -> Option<WireEnd>
     ensures reads_or_refuses { MatchOption result ((e : WireEnd) → EndOf e text.now → ⊥) (λ e. EndOf e text.now) }
 {
-    let Some(end) = pinned_of(text) else {
-        return None;
-    };
-    let pin = end.pin;
-    if is_hyphen(end.child) {
+    let Pinned { child, pin } = pinned_of(text)?;
+    if child == b"-".as_slice() {
         return Some(WireEnd::Own { pin });
     }
-    match Name::new(end.child) {
-        Some(name) => Some(WireEnd::Child { name, pin }),
-        None => None,
-    }
+    let name = Name::new(child)?;
+    Some(WireEnd::Child { name, pin })
 }

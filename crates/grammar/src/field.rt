@@ -1,26 +1,27 @@
 // The fields of a line, read one by one.
-ghost use Rattle.std.specs.Prelude.{◌≡◌, ℕ, ◌<◌, List, ◌∷◌, length};
-ghost use Rattle.std.specs.Borrow.{Bor};
+ghost use Rattle.std.specs.Prelude.{◌≡◌, ℕ, ◌+◌, ◌<◌, ◌^◌, ◌∷◌, length};
 ghost use Rattle.grammar.specs.Pieces.{split, left};
-ghost use Rattle.grammar.specs.Reading.{Taken, NameIn, NumberIn, EndIn, ReadsName, ReadsNumber, ReadsEnd, labelled};
 
-use crate::cut::first_piece;
 use crate::ends::wire_end;
 use crate::fault::LineFault;
 use crate::numbers::number;
+use crate::words::Words;
 use drawing::ends::WireEnd;
 use names::name::Name;
 
-// Where a field stands: its line, and its number in that.
+// A part of the file, with its place: a line, and the number of a field in that.
 #[derive(Clone, Copy)]
-pub(crate) struct Place {
+pub(crate) struct Placed<'a> {
+    pub(crate) text: &'a [u8],
     line: usize,
     field: usize,
 }
 
-impl Place {
+impl Placed<'_> {
+    ghost use Rattle.grammar.specs.Reading.{fault_at};
+
     fn fault(self) -> LineFault
-        ensures value { result ≡ Rattle.grammar.specs.Reading.fault_at self }
+        ensures value { result ≡ fault_at self.entry }
     {
         LineFault::BadField {
             line: self.line,
@@ -29,34 +30,24 @@ impl Place {
     }
 }
 
-// A field as the rule of its line takes it: a part of the file, with its place.
+// A field as the rule of its line takes it.
 #[derive(Clone, Copy)]
 pub(crate) enum Field<'a> {
-    Name { text: &'a [u8], place: Place },
-    Number { text: &'a [u8], place: Place },
-    End { text: &'a [u8], place: Place },
-}
-
-// What the rule of a line wants next.
-#[derive(Clone, Copy)]
-pub(crate) enum Want {
-    Name,
-    Number,
-    End,
+    Name(Placed<'a>),
+    Number(Placed<'a>),
+    End(Placed<'a>),
 }
 
 impl Field<'_> {
+    ghost use Rattle.grammar.specs.Reading.{NameIn, NumberIn, EndIn};
+
     // The name that it is.
-    fn name(self) -> Result<Name, LineFault>
+    pub(crate) fn name(self) -> Result<Name, LineFault>
         ensures reads_or_refuses { NameIn self.entry result }
     {
         match self {
-            Field::Name { text, place } => match Name::new(text) {
-                Some(name) => Ok(name),
-                None => Err(place.fault()),
-            },
-            Field::Number { text: _, place } => Err(place.fault()),
-            Field::End { text: _, place } => Err(place.fault()),
+            Field::Name(part) => Name::new(part.text).ok_or(part.fault()),
+            Field::Number(part) | Field::End(part) => Err(part.fault()),
         }
     }
 
@@ -65,12 +56,8 @@ impl Field<'_> {
         ensures reads_or_refuses { NumberIn self.entry low high result }
     {
         match self {
-            Field::Number { text, place } => match number(text, low, high) {
-                Some(value) => Ok(value),
-                None => Err(place.fault()),
-            },
-            Field::Name { text: _, place } => Err(place.fault()),
-            Field::End { text: _, place } => Err(place.fault()),
+            Field::Number(part) => number(part.text, low, high).ok_or(part.fault()),
+            Field::Name(part) | Field::End(part) => Err(part.fault()),
         }
     }
 
@@ -79,75 +66,74 @@ impl Field<'_> {
         ensures reads_or_refuses { EndIn self.entry result }
     {
         match self {
-            Field::End { text, place } => match wire_end(text) {
-                Some(end) => Ok(end),
-                None => Err(place.fault()),
-            },
-            Field::Name { text: _, place } => Err(place.fault()),
-            Field::Number { text: _, place } => Err(place.fault()),
+            Field::End(part) => wire_end(part.text).ok_or(part.fault()),
+            Field::Name(part) | Field::Number(part) => Err(part.fault()),
         }
     }
 }
 
-// The fields of a line that are not read yet.
+// The fields of a line that are not read yet, with the line's number and the count of those that are.
 #[derive(Clone, Copy)]
 pub(crate) struct Fields<'a> {
-    rest: Option<&'a [u8]>,
+    words: Words<'a>,
+    line: usize,
+    read: usize,
+    ghost few: { read + length (left 32 words.rest) < 2 ^ 64 },
 }
 
 impl<'a> Fields<'a> {
-    pub(crate) fn of(text: &'a [u8]) -> Fields<'a>
-        ensures are_all { left 32 result.rest ≡ split 32 text.now }
-    {
-        Fields { rest: Some(text) }
-    }
+    ghost use Rattle.grammar.specs.Taking.{Takes, ReadsName, ReadsNumber, ReadsEnd};
 
-    // The text of the next field; empty where none is left.
-    pub(crate) fn next_word(&mut self) -> &'a [u8]
-        ensures takes_one { Taken (left 32 self.old.rest) result.now (left 32 self.new.rest) }
+    pub(crate) fn of(text: &'a [u8], line: usize) -> Fields<'a>
+        requires few { length (split 32 text.now) < 2 ^ 64 }
+        ensures are_all { (left 32 result.words.rest ≡ split 32 text.now) × (result.line ≡ line) × (result.read ≡ 0) }
     {
-        let Some(rest) = self.rest else {
-            return &[];
-        };
-        let cut = first_piece(rest, b' ');
-        self.rest = cut.rest;
-        cut.piece
-    }
-
-    // The next field, as what is wanted there.
-    fn next_field(&mut self, want: Want, place: Place) -> Field<'a>
-        ensures takes_one { (t : Bor (List ℕ)) × (result ≡ labelled want t place) × Taken (left 32 self.old.rest) t.now (left 32 self.new.rest) }
-    {
-        let text = self.next_word();
-        match want {
-            Want::Name => Field::Name { text, place },
-            Want::Number => Field::Number { text, place },
-            Want::End => Field::End { text, place },
+        Fields {
+            words: Words::of(text),
+            line,
+            read: 0,
         }
     }
 
-    pub(crate) fn name(&mut self, line: usize, field: usize) -> Result<Name, LineFault>
-        ensures reads_or_refuses { ReadsName (left 32 self.old.rest) line field (left 32 self.new.rest) result }
+    // The next field.
+    pub(crate) fn next(&mut self) -> Placed<'a>
+        requires some { 0 < length (left 32 self.old.words.rest) }
+        ensures takes_one { Takes self.old result.text.now self.new × (result.line ≡ self.new.line) × (result.field ≡ self.new.read) }
     {
-        self.next_field(Want::Name, Place { line, field }).name()
+        let text = self.words.next().unwrap();
+        self.read += 1;
+        Placed {
+            text,
+            line: self.line,
+            field: self.read,
+        }
     }
 
-    pub(crate) fn number(
-        &mut self,
-        line: usize,
-        field: usize,
-        low: u16,
-        high: u16,
-    ) -> Result<u16, LineFault>
-        ensures reads_or_refuses { ReadsNumber low high (left 32 self.old.rest) line field (left 32 self.new.rest) result }
+    pub(crate) fn name(&mut self) -> Result<Name, LineFault>
+        requires some { 0 < length (left 32 self.old.words.rest) }
+        ensures reads_or_refuses { ReadsName self.old self.new result }
     {
-        self.next_field(Want::Number, Place { line, field })
-            .number(low, high)
+        Field::Name(self.next()).name()
     }
 
-    pub(crate) fn end(&mut self, line: usize, field: usize) -> Result<WireEnd, LineFault>
-        ensures reads_or_refuses { ReadsEnd (left 32 self.old.rest) line field (left 32 self.new.rest) result }
+    pub(crate) fn number(&mut self, low: u16, high: u16) -> Result<u16, LineFault>
+        requires some { 0 < length (left 32 self.old.words.rest) }
+        ensures reads_or_refuses { ReadsNumber low high self.old self.new result }
     {
-        self.next_field(Want::End, Place { line, field }).end()
+        Field::Number(self.next()).number(low, high)
+    }
+
+    pub(crate) fn byte(&mut self, high: u8) -> Result<u8, LineFault>
+        requires some { 0 < length (left 32 self.old.words.rest) }
+        ensures reads_or_refuses { ReadsNumber 0 high self.old self.new result }
+    {
+        Ok(self.number(0, u16::from(high))? as u8)
+    }
+
+    pub(crate) fn end(&mut self) -> Result<WireEnd, LineFault>
+        requires some { 0 < length (left 32 self.old.words.rest) }
+        ensures reads_or_refuses { ReadsEnd self.old self.new result }
+    {
+        Field::End(self.next()).end()
     }
 }

@@ -8,6 +8,8 @@ mod field;
 mod kinds;
 pub mod numbers;
 pub mod rules;
+mod show;
 pub mod statement;
 mod text;
 pub mod word;
+mod words;

@@ -9,15 +9,15 @@ pub fn natural(text: &[u8]) -> Option<u64>
     if text.is_empty() || text.len() > 10 {
         return None;
     }
-    if text[0] == b'0' && text.len() > 1 {
+    if let [b'0', _, ..] = text {
         return None;
     }
     let mut value = 0;
-    'digits: for i in 0..text.len() {
-        if text[i] < b'0' || text[i] > b'9' {
+    'digits: for digit in text {
+        if !digit.is_ascii_digit() {
             return None;
         }
-        value = 10 * value + u64::from(text[i] - b'0');
+        value = 10 * value + u64::from(*digit - b'0');
     }
     Some(value)
 }
@@ -26,9 +26,9 @@ pub fn natural(text: &[u8]) -> Option<u64>
 pub fn number(text: &[u8], low: u16, high: u16) -> Option<u16>
     ensures reads_or_refuses { MatchOption result ((v : ℕ) → Numeral low high v text.now → ⊥) (λ v. Numeral low high v text.now) }
 {
-    let value = natural(text)?;
-    if value < u64::from(low) || value > u64::from(high) {
+    let value = u16::try_from(natural(text)?).ok()?;
+    if value < low || value > high {
         return None;
     }
-    Some(value as u16)
+    Some(value)
 }

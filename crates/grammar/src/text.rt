@@ -1,42 +1,74 @@
 // The text of a line.
-ghost use Rattle.std.specs.Prelude.{◌≡◌, length, Decides, MatchOption};
+ghost use Rattle.std.specs.Prelude.{◌≡◌, ℕ, ◌<◌, ◌≤◌, ◌∷◌, [], length, slice_index_or, EachIndex, Decides, MatchOption, MatchResult, ◌≢◌};
 ghost use Rattle.grammar.specs.Pieces.{split};
 ghost use Rattle.grammar.specs.Lines.{Word, Tidy};
+ghost use Rattle.grammar.specs.Rules.{first};
+ghost use Rattle.grammar.specs.declared.fault.TextFault.TheVariants.{BadText};
 
-use crate::cut::first_piece;
+use crate::fault::TextFault;
+use crate::words::Words;
 
 // Whether a text is a field: not empty, and of printable bytes other than the space.
 fn is_word(text: &[u8]) -> bool
     ensures value { Decides result (Word text.now) }
 {
-    if text.is_empty() {
-        return false;
-    }
-    'bytes: for i in 0..text.len() {
-        if text[i] < 33 || text[i] > 126 {
-            return false;
-        }
-    }
-    true
+    !text.is_empty() && text.iter().all(|b| b.is_ascii_graphic())
 }
 
-// How many fields a line has, or nothing where its text is none of a line.
-pub(crate) fn fields_in(line: &[u8]) -> Option<usize>
-    ensures counts_or_refuses { MatchOption result (Tidy line.now → ⊥) (λ n. Tidy line.now × (n ≡ length (split 32 line.now))) }
+// Whether all that stands between the spaces of a line is a field.
+fn all_words(text: &[u8]) -> bool
+    ensures value { Decides result (EachIndex (split 32 text.now) (λ k. Word (slice_index_or (split 32 text.now) k []))) }
 {
-    if line.len() > 80 {
-        return None;
-    }
-    let mut count = 1;
-    let mut part = first_piece(line, b' ');
-    'fields: loop {
-        if !is_word(part.piece) {
-            return None;
+    Words::of(text).all(is_word)
+}
+
+// Whether a text is one of a line: short, and of fields with single spaces between them.
+#[tactic(auto, using(crate::proofs::Lining::words_from, crate::proofs::Lining::words_at))]
+fn is_tidy(text: &[u8]) -> bool
+    ensures value { Decides result (Tidy text.now) }
+{
+    text.len() <= 80 && all_words(text)
+}
+
+// How many fields there are between the spaces.
+#[tactic(auto, using(crate::proofs::Rejoining::split_few))]
+fn fields_in(text: &[u8]) -> usize
+    requires short { length text.now ≤ 80 }
+    ensures counts_them { result ≡ length (split 32 text.now) }
+{
+    Words::of(text).count()
+}
+
+// A line whose text is one of a line, with its number in the file and the count of its fields.
+#[derive(Clone, Copy)]
+pub(crate) struct Line<'a> {
+    pub(crate) text: &'a [u8],
+    pub(crate) number: usize,
+    pub(crate) count: usize,
+    ghost counted: { count ≡ length (split 32 text.now) },
+}
+
+impl<'a> Line<'a> {
+    pub(crate) fn of(text: &'a [u8], number: usize) -> Result<Line<'a>, TextFault>
+        ensures passes_or_refuses { MatchResult result (λ line. Tidy text.now × (line.text.now ≡ text.now) × (line.number ≡ number)) (λ e. (Tidy text.now → ⊥) × (e ≡ BadText number)) }
+    {
+        if !is_tidy(text) {
+            return Err(TextFault::BadText { line: number });
         }
-        let Some(rest) = part.rest else {
-            return Some(count);
-        };
-        count += 1;
-        part = first_piece(rest, b' ');
+        Ok(Line {
+            text,
+            number,
+            count: fields_in(text),
+        })
+    }
+
+    // The letter that it begins with.
+    pub(crate) fn letter(self) -> Option<char>
+        ensures is_the_letter { MatchOption result (length (first (split 32 self.entry.text.now)) ≢ 1) (λ c. first (split 32 self.entry.text.now) ≡ c ∷ []) }
+    {
+        match Words::of(self.text).next()? {
+            [letter] => Some(char::from(*letter)),
+            _ => None,
+        }
     }
 }

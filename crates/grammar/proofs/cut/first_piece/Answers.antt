@@ -1,17 +1,10 @@
-use Rattle.std.proofs.Common.{take, ap}
-use native.Mathlib.Nat.{sub-zero}
+use Rattle.std.proofs.Common.{refl}
 use Rattle.std.proofs.lemmas.List.{take_rest}
-use Rattle.grammar.proofs.Splitting.{found, whole}
+use Rattle.grammar.proofs.Splitting.{cut_at, cut_nowhere}
 use Rattle.grammar.proofs.cut.first_piece.Goals as goal
 
-pub returns-then-text-i : goal.returns-then-text-i
-returns-then-text-i c =
-    let text = c.args.text.now in
-    record {
-      takes_the_first_piece =
-          found _ text c.bytes.i _ _ c.bytes-test.true c.bytes.invariant c.if-text-i.true (ap (λ n. take n text) (sub-zero c.bytes.i))
-          (take_rest text _);
-    }
+pub returns-in-Some : goal.returns-in-Some
+returns-in-Some c = record { takes_the_first_piece = cut_at _ c.args.text.now _ _ _ c.in-Some.ensures.finds_the_first refl (take_rest c.args.text.now _) }
 
-pub returns : goal.returns
-returns c = record { takes_the_first_piece = whole _ _ _ c.bytes-test.false c.bytes.invariant }
+pub returns-in-None : goal.returns-in-None
+returns-in-None c = record { takes_the_first_piece = cut_nowhere _ _ c.in-None.ensures.finds_the_first }

@@ -5,11 +5,11 @@ use Rattle.grammar.proofs.numbers.natural.Goals as goal
 pub returns-then-is_empty : goal.returns-then-is_empty
 returns-then-is_empty c = record { reads_or_refuses = λ v l e. let s = shape v c.args.text.now l e in search rules }
 
-pub returns-then-text-gt1 : goal.returns-then-text-gt1
-returns-then-text-gt1 c = record { reads_or_refuses = λ v l e. let s = shape v c.args.text.now l e in search rules }
+pub returns-in-48 : goal.returns-in-48
+returns-in-48 c = record { reads_or_refuses = λ v l e. let s = shape v c.args.text.now l e in search rules }
 
-pub returns-then-text-i-lt48 : goal.returns-then-text-i-lt48
-returns-then-text-i-lt48 c = record { reads_or_refuses = no_digit c.args.text.now c.digits.i c.digits-test.true (search rules) }
+pub returns-then-not-is_ascii_digit : goal.returns-then-not-is_ascii_digit
+returns-then-not-is_ascii_digit c = record { reads_or_refuses = no_digit c.args.text.now c.digits.digit-index c.digits-test.true (search rules) }
 
 pub overflow_mul-value : goal.overflow_mul-value
 overflow_mul-value c = let s = small _ _ _ c.digits.invariant c.digits-test.true (search rules) in search rules

@@ -1,16 +1,12 @@
-use Rattle.std.proofs.Common.{◌≡◌, sym, ◌∙◌, rules}
-use Rattle.std.proofs.lemmas.Fmt.{decimal_injective}
+use Rattle.std.proofs.Common.{rules}
+use Rattle.grammar.proofs.Counting.{read_number}
 use Rattle.grammar.proofs.numbers.number.Goals as goal
 
-pub returns-then-value-from : goal.returns-then-value-from
-returns-then-value-from c =
-    record {
-      reads_or_refuses =
-          λ v n.
-          let is = c.in_ok-value.ensures.reads_or_refuses in
-          let high = n.at_most in
-          let low = n.at_least in
-          let fits = c.ranges.high in
-          let same : v ≡ c.in_ok-value.value = decimal_injective v c.in_ok-value.value (search rules) (search rules) (n.written ∙ sym is.1) in
-          search rules;
-    }
+pub returns-in_err-value : goal.returns-in_err-value
+returns-in_err-value c =
+    rw c.from_residual-in_err-value.ensures
+    record { reads_or_refuses = λ v n. let same = read_number _ _ v _ _ c.in_ok-natural.ensures.reads_or_refuses n (search rules) in let high = n.at_most in search rules }
+
+pub returns-then-value-low : goal.returns-then-value-low
+returns-then-value-low c =
+    record { reads_or_refuses = λ v n. let same = read_number _ _ v _ _ c.in_ok-natural.ensures.reads_or_refuses n (search rules) in let high = n.at_most in let low = n.at_least in search rules }

@@ -36,7 +36,7 @@ sized_settled file h = record {
   ended = settled (get_or file (length file - 1) 0) 10 (λ bad. h (λ s. bad s.ended));
 }
 
-says_written : (current : Option ℕ) (line : List ℕ) (n : ℕ) (st : Statement) → LineSays current line n (Ok st) → InRange st × (written st ≡ line)
+pub says_written : (current : Option ℕ) (line : List ℕ) (n : ℕ) (st : Statement) → LineSays current line n (Ok st) → InRange st × (written st ≡ line)
 says_written None line n st h = let says = board_says line n st h in (says.0, says.1)
 says_written (Some b) line n st h = item_says line n st h
 
@@ -96,8 +96,8 @@ module _ {C : Type 0} (time : Time C) where
   goes_writes (last ∷ []) n bytes s d (inl h) = stops (join_with_byte 10 (last ∷ [])) bytes s d h.0 h.1
   goes_writes (last ∷ []) n bytes s d (inr h) = absurd (ok_err d (of_line 3 n 0) h.1)
   goes_writes (line ∷ next ∷ more) n bytes s d (inl h) = stops (join_with_byte 10 (line ∷ next ∷ more)) bytes s d h.0 h.1
-  goes_writes (line ∷ next ∷ more) n bytes s d (inr (open-yet, inl h)) = absurd (ok_err d h.0 h.2)
-  goes_writes (line ∷ next ∷ more) n bytes s d (inr (open-yet, inr h)) =
+  goes_writes (line ∷ next ∷ more) n bytes s d (inr (not_yet, inl h)) = absurd (ok_err d h.0 h.2)
+  goes_writes (line ∷ next ∷ more) n bytes s d (inr (not_yet, inr h)) =
       let gives = h.1 in
       one_more line (join_with_byte 10 (next ∷ more)) bytes s h.0 d (drawn_accepted gives.0 line n s h.0 gives.1 gives.2)
       (goes_writes (next ∷ more) (n + 1) (bytes + (length line + 1)) h.0 d h.2)

@@ -1,32 +1,46 @@
 -- How the reader of a block goes on.
-use Rattle.std.proofs.Common.{◌≡◌, ℕ, ◌+◌, ◌<◌, ◌≤◌, List, [], ◌∷◌, length, Some, None, Ok, Err, Result, sym, refl, ap, subst, inl, inr, arith}
+use Rattle.std.proofs.Common.{◌≡◌, ℕ, ◌+◌, ◌<◌, ◌≤◌, List, [], ◌∷◌, length, Some, None, Ok, Err, Result, IsErrAnd, MatchResult, sym, refl, ap, subst, inl, inr, arith}
 use Rattle.clock.specs.Time.{Time}
 use Rattle.part.specs.declared.catalogue.Catalogue.{Catalogue}
-use Rattle.drawing.specs.Calls.{Sheet, blank}
-use Rattle.drawing.specs.Faults.{fault_number}
-use Rattle.drawing.specs.declared.fault.Fault.{Fault}
-use Rattle.drawing.specs.declared.fault.Fault.TheVariants.{Memory}
+use Rattle.drawing.specs.Calls.{Sheet}
 use Rattle.grammar.specs.declared.fault.LineFault.{LineFault}
+use Rattle.grammar.specs.declared.fault.LineFault.TheVariants.{Missing}
 use Rattle.grammar.specs.declared.fault.Verdict.{Verdict}
 use Rattle.grammar.specs.declared.statement.Statement.{Statement}
 use Rattle.grammar.specs.Pieces.{split}
-use Rattle.grammar.specs.Rules.{ItemLine, BoardLine}
 use Rattle.grammar.specs.Verdicts.{of_line, line_verdict}
+use Rattle.grammar.proofs.Asking.{ok_err}
 use Rattle.grammar.proofs.Rejoining.{split_some}
 use Rattle.netlist.specs.declared.fault.BlockFault.{BlockFault}
-use Rattle.netlist.specs.declared.fault.BlockFault.TheVariants as Refuses
+use Rattle.netlist.specs.declared.fault.BlockFault.TheVariants as block
 use Rattle.netlist.specs.declared.lines.Lines.{Lines}
-use Rattle.netlist.specs.Drawings.{Takes, LineGives, LineSays, Drawn}
+use Rattle.netlist.specs.Drawings.{Takes, LineGives, LineSays}
 use Rattle.netlist.specs.Files.{Reading, Closed, Goes}
-use Rattle.netlist.specs.Steps.{Line, FromHere, Continues, Grown, Applies, Stops}
+use Rattle.netlist.specs.Steps.{Line, Applies, Place, FromHere, Continues, Grown, Stops, Stated}
 use Rattle.netlist.specs.Verdicts.{refused, block_verdict}
+use Rattle.netlist.proofs.Taking.{numbered}
 
 -- some items of the block are read, and it is still open
-pub record Sofar {C : Type 0} (time : Time C) (before : Lines) (s : Sheet (Catalogue C)) (after : Lines) (t : Sheet (Catalogue C)) : Type 0 where
-  pub continues : Continues time before s after t
-  pub grown : Grown s t
-  pub open_now : t.current ≡ s.current
-  pub no_more : length after.rest.now ≤ length before.rest.now
+pub record Sofar {C : Type 0} (time : Time C) (here there : Place C) : Type 0 where
+  pub continues : Continues time here there
+  pub grown : Grown here.drawn there.drawn
+  pub open_now : there.drawn.current ≡ here.drawn.current
+  pub no_more : length there.lines.rest.now ≤ length here.lines.rest.now
+
+-- an open board is not closed
+pub not_closed : {C : Type 0} (s : Sheet (Catalogue C)) (b : ℕ) → s.current ≡ Some b → Closed s → ⊥
+not_closed s b e h = let n = h.0 in cc
+
+-- the `?` hands on a fault that stops the reader
+pub hands_on : {C T : Type 0} (time : Time C) (here : Place C) (P : T → Type 0) (e : BlockFault) (r : Result T BlockFault) → IsErrAnd r (λ y. y ≡ e) → Stops time here e → MatchResult r P (λ y. Stops time here y)
+hands_on time here P e (Ok x) h stop = absurd h
+hands_on time here P e (Err y) h stop = subst (Stops time here) (sym h) stop
+
+-- when the board is closed, reading stops
+pub closed_here : {C : Type 0} (time : Time C) (pieces : List (List ℕ)) (n bytes : ℕ) (s : Sheet (Catalogue C)) → Closed s → Goes time pieces n bytes s (Ok (record { sheet = s; bytes = bytes }))
+closed_here time [] n bytes s h = inl (h, refl)
+closed_here time (last ∷ []) n bytes s h = inl (h, refl)
+closed_here time (line ∷ next ∷ more) n bytes s h = inl (h, refl)
 
 module _ {C : Type 0} (time : Time C) (s : Sheet (Catalogue C)) (open_now : Closed s → ⊥) where
   -- no line is left
@@ -44,59 +58,41 @@ module _ {C : Type 0} (time : Time C) (s : Sheet (Catalogue C)) (open_now : Clos
   goes_on line [] n bytes t out some h g = absurd (omega arith)
   goes_on line (next ∷ more) n bytes t out some h g = inr (open_now, inr (t, h, g))
 
-  pub none_left : (before : Lines) (last : List ℕ) → split 10 before.rest.now ≡ last ∷ [] → FromHere time before s (Err (of_line 3 before.number 0))
-  none_left before last e = missing (split 10 before.rest.now) last before.number before.taken e
+module _ {C : Type 0} (time : Time C) (here : Place C) (open_now : Closed here.drawn → ⊥) where
+  -- a line that gives a verdict
+  line_stops : (after : Lines) (line : List ℕ) (v : Verdict) → Line here.lines line after → LineGives time line here.lines.number here.drawn (Err v) → FromHere time here (Err v)
+  line_stops after line v l h =
+      subst (λ ps. Goes time ps here.lines.number here.lines.taken here.drawn (Err v)) (sym l.pieces)
+      (stops time here.drawn open_now line (split 10 after.rest.now) here.lines.number here.lines.taken v (split_some 10 after.rest.now) h)
 
-  pub line_stops : (before after : Lines) (line : List ℕ) (v : Verdict) → Line before line after → LineGives time line before.number s (Err v) → FromHere time before s (Err v)
-  line_stops before after line v l h =
-      subst (λ ps. Goes time ps before.number before.taken s (Err v)) (sym l.pieces) (stops line (split 10 after.rest.now) before.number before.taken v (split_some 10 after.rest.now) h)
+  line_goes_on : (there : Place C) (line : List ℕ) → Line here.lines line there.lines → LineGives time line here.lines.number here.drawn (Ok there.drawn) → Continues time here there
+  line_goes_on there line l h out g =
+      let pieces = split 10 there.lines.rest.now in
+      let at_number = subst (λ n. Goes time pieces n there.lines.taken there.drawn out) l.number g in
+      let at_bytes = subst (λ b. Goes time pieces (here.lines.number + 1) b there.drawn out) l.taken at_number in
+      subst (λ ps. Goes time ps here.lines.number here.lines.taken here.drawn out) (sym l.pieces)
+      (goes_on time here.drawn open_now line pieces here.lines.number here.lines.taken there.drawn out (split_some 10 there.lines.rest.now) h at_bytes)
 
-  pub line_goes_on : (before after : Lines) (line : List ℕ) (t : Sheet (Catalogue C)) → Line before line after → LineGives time line before.number s (Ok t) → Continues time before s after t
-  line_goes_on before after line t l h out g =
-      let at-number = subst (λ n. Goes time (split 10 after.rest.now) n after.taken t out) l.number g in
-      let at-bytes = subst (λ b. Goes time (split 10 after.rest.now) (before.number + 1) b t out) l.taken at-number in
-      subst (λ ps. Goes time ps before.number before.taken s out) (sym l.pieces) (goes_on line (split 10 after.rest.now) before.number before.taken t out (split_some 10 after.rest.now) h at-bytes)
+  -- no line is left
+  pub none_left : (last : List ℕ) → split 10 here.lines.rest.now ≡ last ∷ [] → Stops time here (block.Line (Missing here.lines.number))
+  none_left last e = inr (of_line 3 here.lines.number 0, refl, missing time here.drawn open_now (split 10 here.lines.rest.now) last here.lines.number here.lines.taken e)
 
--- an open board is not closed
-pub not_closed : {C : Type 0} (s : Sheet (Catalogue C)) (b : ℕ) → s.current ≡ Some b → Closed s → ⊥
-not_closed s b e h = let z : ◌≡◌ {A = ℕ} 0 1 = let n = h.0 in cc in omega arith
+  -- a line that breaks a rule
+  pub line_refused : (after : Lines) (line : List ℕ) (e : LineFault) → Line here.lines line after → LineSays here.drawn.current line here.lines.number (Err (line_verdict e)) → Stops time here (block.Line e)
+  line_refused after line e l says = inr (line_verdict e, refl, line_stops after line (line_verdict e) l (Err (line_verdict e), says, refl))
 
--- a line in an open block
-pub item_gives : {C : Type 0} (time : Time C) (s : Sheet (Catalogue C)) (b : ℕ) (line : List ℕ) (n : ℕ) (q : Result Statement Verdict) (r : Result (Sheet (Catalogue C)) Verdict) →
-    s.current ≡ Some b → ItemLine line n q → Drawn time q n s r → LineGives time line n s r
-item_gives time s b line n q r e h d = (q, subst (λ c. LineSays c line n q) (sym e) h, d)
+  module _ (after : Lines) (line : List ℕ) (st : Statement) (l : Line here.lines line after) (says : LineSays here.drawn.current line here.lines.number (Ok st)) where
+    -- a statement that the drawing refuses
+    pub statement_refused : (t : Sheet (Catalogue C)) (e : BlockFault) → Applies time st here.lines.number here.drawn t (Err e) → Stops time here e
+    statement_refused t e (Ok x, takes, kept, p) = absurd (ok_err tt e (sym p))
+    statement_refused t e (Err f, takes, kept, inl (is_memory, p)) = inl p
+    statement_refused t e (Err f, takes, kept, inr (other, p)) =
+        let n = here.lines.number in
+        let some = numbered time st here.drawn t line n f open_now says other takes in
+        inr (refused f n, ap block_verdict p, line_stops after line (refused f n) l (Ok st, says, inr (f, subst (λ u. Takes time st here.drawn u (Err f)) kept takes, some, refl)))
 
-module _ {C : Type 0} (time : Time C) (before : Lines) (s : Sheet (Catalogue C)) where
-  -- a fault of a line
-  pub line_fault : (e : LineFault) (y : BlockFault) → y ≡ Refuses.Line e → FromHere time before s (Err (line_verdict e)) → Stops time before s y
-  line_fault e y p h = inr (line_verdict e, ap block_verdict p, h)
-
-  -- what a statement's answer says: it is carried out
-  pub carried_out : (st : Statement) (n : ℕ) (t : Sheet (Catalogue C)) (x : Unit) → Applies time st n s t (Ok x) → Takes time st s t (Ok tt)
-  carried_out st n t x (Ok y, h, k, a) = h
-  carried_out st n t x (Err f, h, k, inl a) = absurd (let p = a.1 in let z : ◌≡◌ {A = ℕ} 0 1 = cc in omega arith)
-  carried_out st n t x (Err f, h, k, inr a) = absurd (let p = a.1 in let z : ◌≡◌ {A = ℕ} 0 1 = cc in omega arith)
-
-  -- or it is refused
-  pub refused_there : (st : Statement) (n : ℕ) (t : Sheet (Catalogue C)) (e y : BlockFault) → ((f : Fault) → (f ≡ Memory → ⊥) → Takes time st s t (Err f) → 0 < fault_number f) → Applies time st n s t (Err e) → y ≡ e →
-      ((f : Fault) → Takes time st s s (Err f) → 0 < fault_number f → FromHere time before s (Err (refused f n))) → Stops time before s y
-  refused_there st n t e y some (Ok x, h, k, a) q go = absurd (let z : ◌≡◌ {A = ℕ} 0 1 = cc in omega arith)
-  refused_there st n t e y some (Err f, h, k, inl a) q go = inl (let p = a.1 in cc)
-  refused_there st n t e y some (Err f, h, k, inr a) q go =
-      let same : y ≡ Refuses.Refused f n = let p = a.1 in cc in
-      inr (refused f n, ap block_verdict same, go f (subst (λ u. Takes time st s u (Err f)) k h) (some f a.0 h))
-
--- the line that opens the board
-pub board_gives : {C : Type 0} (time : Time C) (s : Sheet (Catalogue C)) (line : List ℕ) (n : ℕ) (q : Result Statement Verdict) (r : Result (Sheet (Catalogue C)) Verdict) →
-    s.current ≡ None → BoardLine line n q → Drawn time q n s r → LineGives time line n s r
-board_gives time s line n q r e h d = (q, subst (λ c. LineSays c line n q) (sym e) h, d)
-
--- nothing is drawn yet
-pub blank_open : {C : Type 0} (s : Sheet (Catalogue C)) → s ≡ blank → Closed s → ⊥
-blank_open s e h = omega (arith, h.1, ap (λ (t : Sheet (Catalogue _)). length t.plan.blocks) e)
-
--- when the board is closed, reading stops
-pub closed_here : {C : Type 0} (time : Time C) (pieces : List (List ℕ)) (n bytes : ℕ) (s : Sheet (Catalogue C)) → Closed s → Goes time pieces n bytes s (Ok (record { sheet = s; bytes = bytes }))
-closed_here time [] n bytes s h = inl (h, refl)
-closed_here time (last ∷ []) n bytes s h = inl (h, refl)
-closed_here time (line ∷ next ∷ more) n bytes s h = inl (h, refl)
+    -- a statement that is carried out
+    pub statement_done : (t : Sheet (Catalogue C)) → Applies time st here.lines.number here.drawn t (Ok tt) → Stated time here (record { lines = after; drawn = t }) st
+    statement_done t (Ok x, takes, kept, p) =
+        record { takes = takes; continues = line_goes_on (record { lines = after; drawn = t }) line l (Ok st, says, inl (t, takes, refl)); fewer = l.fewer }
+    statement_done t (Err f, takes, kept, p) = absurd p

@@ -99,8 +99,8 @@ module _ {C : Type 0} (time : Time C) where
   -- a line that is accepted, and has a line end
   goes_line : (line : List ℕ) (pieces : List (List ℕ)) (n bytes : ℕ) (s t : Sheet (Catalogue C)) (out : Result (Reading C) Verdict) → 0 < length pieces →
       (Closed s → ⊥) → LineGives time line n s (Ok t) → Goes time pieces (n + 1) (bytes + (length line + 1)) t out → Goes time (line ∷ pieces) n bytes s out
-  goes_line line [] n bytes s t out some open-yet gives goes = absurd (omega arith)
-  goes_line line (next ∷ more) n bytes s t out some open-yet gives goes = inr (open-yet, inr (t, gives, goes))
+  goes_line line [] n bytes s t out some not_yet gives goes = absurd (omega arith)
+  goes_line line (next ∷ more) n bytes s t out some not_yet gives goes = inr (not_yet, inr (t, gives, goes))
 
   pub draws_reads : (drawing : List Statement) (rest : List ℕ) (n bytes : ℕ) (s : Sheet (Catalogue C)) (d : Reading C) → Draws time drawing s d.sheet → Closed d.sheet →
       d.bytes ≡ bytes + length (lines_of drawing) → Goes time (split 10 (lines_of drawing ++ rest)) n bytes s (Ok d)

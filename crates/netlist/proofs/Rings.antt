@@ -1,5 +1,6 @@
 -- Blocks in blocks: what is read of a block, seen from the block around it.
-use Rattle.std.proofs.Common.{◌≡◌, ℕ, ◌+◌, ◌-◌, ◌<◌, false, cond, eqb, [], ◌∷◌, ◌++◌, length, Some, None, sym, refl, ap, ◌∙◌, inl, inr, arith}
+use Rattle.std.proofs.Common.{◌≡◌, ℕ, ◌+◌, ◌-◌, ◌<◌, Bool, true, false, is_some, ControlFlow, Continue, Break, cond, eqb, [], ◌∷◌, ◌++◌, length, Some, None, sym, refl, ap, ◌∙◌, inl, inr, arith}
+use Rattle.std.specs.ControlFlow.{continue_value}
 use Rattle.std.proofs.lemmas.List.{append-nil, append_assoc, length-append, get_or_append_left, get_or_push}
 use Rattle.std.proofs.lemmas.Bool.{ne_eqb}
 use Rattle.clock.specs.Time.{Time}
@@ -9,8 +10,7 @@ use Rattle.board.specs.declared.parts.Block.{Block}
 use Rattle.drawing.specs.Calls.{Sheet, outer}
 use Rattle.grammar.specs.declared.statement.Statement.{Statement}
 use Rattle.netlist.specs.declared.fault.BlockFault.{BlockFault}
-use Rattle.netlist.specs.declared.lines.Lines.{Lines}
-use Rattle.netlist.specs.Steps.{Inside, Grown, Continues, Stops, Stated, Read, around}
+use Rattle.netlist.specs.Steps.{Inside, Grown, Place, Continues, Stops, Stated, Read, around, after_item}
 use Rattle.netlist.proofs.Going.{Sofar}
 use Rattle.netlist.proofs.Taking.{Stays, OpenedIn}
 
@@ -61,54 +61,65 @@ module _ {C : Type 0} where
       let not_first : eqb (length s.plan.blocks) 0 ≡ false = ne_eqb (length s.plan.blocks) 0 (λ z. omega arith) in
       ap (around t) o.open_now ∙ ap (λ z. cond z None (Some (block_at t.plan.blocks (length s.plan.blocks)).parent)) not_first ∙ ap (λ (x : Block). Some x.parent) at_inner ∙ ap Some o.parent ∙ sym i.open_block
 
-  module _ (time : Time C) (before : Lines) (s : Sheet (Catalogue C)) where
-    pub stops_before : (mid : Lines) (t : Sheet (Catalogue C)) (e : BlockFault) → Continues time before s mid t → Stops time mid t e → Stops time before s e
-    stops_before mid t e c (inl h) = inl h
-    stops_before mid t e c (inr h) = inr (h.0, h.1, c _ h.2)
+  module _ (time : Time C) (here : Place C) where
+    pub stops_before : (there : Place C) (e : BlockFault) → Continues time here there → Stops time there e → Stops time here e
+    stops_before there e c (inl h) = inl h
+    stops_before there e c (inr h) = inr (h.0, h.1, c _ h.2)
 
     -- a part or a wire
-    pub read_stays : (after : Lines) (t : Sheet (Catalogue C)) (st : Statement) → Stated time before s after t st → Stays s t → Read time before s after t s.current
-    read_stays after t st h k = record { continues = h.continues; grown = grown_stays s t k.blocks; open_now = k.open_now; fewer = h.fewer }
+    pub read_stays : (there : Place C) (st : Statement) → Stated time here there st → Stays here.drawn there.drawn → Read time here there here.drawn.current
+    read_stays there st h k = record { continues = h.continues; grown = grown_stays here.drawn there.drawn k.blocks; open_now = k.open_now; fewer = h.fewer }
 
     -- the end of the block
-    pub read_closes : (after : Lines) (t : Sheet (Catalogue C)) (st : Statement) (b : ℕ) → s.current ≡ Some b → Stated time before s after t st →
-        (t.current ≡ outer s.plan.blocks b) × (t.plan.blocks ≡ s.plan.blocks) → Read time before s after t (around s s.current)
-    read_closes after t st b e h k = record { continues = h.continues; grown = grown_stays s t k.1; open_now = k.0 ∙ ap (around s) (sym e); fewer = h.fewer }
+    pub read_closes : (there : Place C) (st : Statement) (b : ℕ) → here.drawn.current ≡ Some b → Stated time here there st →
+        (there.drawn.current ≡ outer here.drawn.plan.blocks b) × (there.drawn.plan.blocks ≡ here.drawn.plan.blocks) → Read time here there (around here.drawn here.drawn.current)
+    read_closes there st b e h k =
+        record { continues = h.continues; grown = grown_stays here.drawn there.drawn k.1; open_now = k.0 ∙ ap (around here.drawn) (sym e); fewer = h.fewer }
 
     -- a block in the block
-    pub read_nested : (mid after : Lines) (t u : Sheet (Catalogue C)) (st : Statement) (levels : ℕ) (i : Inside s levels) → Stated time before s mid t st → OpenedIn s t i.block →
-        Read time mid t after u (around t t.current) → Read time before s after u s.current
-    read_nested mid after t u st levels i h o r =
+    pub read_nested : (there end : Place C) (st : Statement) (levels : ℕ) (i : Inside here.drawn levels) → Stated time here there st → OpenedIn here.drawn there.drawn i.block →
+        Read time there end (around there.drawn there.drawn.current) → Read time here end here.drawn.current
+    read_nested there end st levels i h o r =
         let first = h.fewer in
         let second = r.fewer in
         record {
           continues = λ out g. h.continues out (r.continues out g);
-          grown = grown_more s t u (o.inner ∷ [], o.blocks) r.grown;
-          open_now = r.open_now ∙ around_inner s t levels i o;
+          grown = grown_more here.drawn there.drawn end.drawn (o.inner ∷ [], o.blocks) r.grown;
+          open_now = r.open_now ∙ around_inner here.drawn there.drawn levels i o;
           fewer = omega arith;
         }
 
-    pub sofar_none : Sofar time before s before s
-    sofar_none = record { continues = λ out g. g; grown = grown_stays s s refl; open_now = refl; no_more = omega arith }
+    -- the block goes on after an item, or ends
+    pub goes_on : (there : Place C) (goes : ControlFlow Unit Unit) (b : Bool) → b ≡ is_some (continue_value goes) → b ≡ true → Read time here there (after_item here.drawn goes) → Read time here there here.drawn.current
+    goes_on there (Continue x) b e test r = r
+    goes_on there (Break x) b e test r = cc
 
-    pub sofar_more : (mid after : Lines) (t u : Sheet (Catalogue C)) → Sofar time before s mid t → Read time mid t after u t.current → Sofar time before s after u
-    sofar_more mid after t u h r =
+    pub ends : (there : Place C) (goes : ControlFlow Unit Unit) (b : Bool) → b ≡ is_some (continue_value goes) → b ≡ false → Read time here there (after_item here.drawn goes) → Read time here there (around here.drawn here.drawn.current)
+    ends there (Continue x) b e test r = cc
+    ends there (Break x) b e test r = r
+
+    pub sofar_none : Sofar time here here
+    sofar_none = record { continues = λ out g. g; grown = grown_stays here.drawn here.drawn refl; open_now = refl; no_more = omega arith }
+
+    pub sofar_more : (there end : Place C) → Sofar time here there → Read time there end there.drawn.current → Sofar time here end
+    sofar_more there end h r =
         let first = h.no_more in
         let second = r.fewer in
         record {
           continues = λ out g. h.continues out (r.continues out g);
-          grown = grown_more s t u h.grown r.grown;
+          grown = grown_more here.drawn there.drawn end.drawn h.grown r.grown;
           open_now = r.open_now ∙ h.open_now;
           no_more = omega arith;
         }
 
-    pub sofar_closes : (mid after : Lines) (t u : Sheet (Catalogue C)) (levels : ℕ) → Inside s levels → Sofar time before s mid t → Read time mid t after u (around t t.current) → Read time before s after u (around s s.current)
-    sofar_closes mid after t u levels i h r =
+    pub sofar_closes : (there end : Place C) (levels : ℕ) → Inside here.drawn levels → Sofar time here there → Read time there end (around there.drawn there.drawn.current) →
+        Read time here end (around here.drawn here.drawn.current)
+    sofar_closes there end levels i h r =
         let first = h.no_more in
         let second = r.fewer in
         record {
           continues = λ out g. h.continues out (r.continues out g);
-          grown = grown_more s t u h.grown r.grown;
-          open_now = r.open_now ∙ around_stays s t levels i h.grown h.open_now;
+          grown = grown_more here.drawn there.drawn end.drawn h.grown r.grown;
+          open_now = r.open_now ∙ around_stays here.drawn there.drawn levels i h.grown h.open_now;
           fewer = omega arith;
         }

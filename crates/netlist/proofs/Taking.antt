@@ -1,5 +1,5 @@
 -- What becomes of a drawing when a statement is carried out, and which faults have a number.
-use Rattle.std.proofs.Common.{◌≡◌, ℕ, ◌+◌, ◌<◌, List, [], ◌∷◌, ◌++◌, length, Some, None, Ok, Err, Option, Result, sym, ap, ◌∙◌, subst, inl, inr, ⊎_elim, arith}
+use Rattle.std.proofs.Common.{◌≡◌, ℕ, ◌+◌, ◌<◌, List, [], ◌∷◌, ◌++◌, length, Some, None, Ok, Err, Option, Result, sym, refl, ap, ◌∙◌, subst, inl, inr, ⊎_elim, arith}
 use Rattle.std.proofs.lemmas.Bool.{cases_lt}
 use Rattle.clock.specs.Time.{Time}
 use Rattle.part.specs.declared.catalogue.Catalogue.{Catalogue}
@@ -9,7 +9,7 @@ use Rattle.board.specs.declared.parts.Block.{Block}
 use Rattle.board.specs.declared.pins.Wire.{Wire}
 use Rattle.drawing.specs.Calls.{Sheet, blank, Placed, next_site, outer, OpensBlock, AddsPart, AddsWire, ClosesBlock}
 use Rattle.drawing.specs.Faults.{fault_number}
-use Rattle.drawing.specs.Lists.{Lists}
+use Rattle.drawing.specs.Lists.{Lists, nothing}
 use Rattle.drawing.specs.Questions.{Asks, BlockAsked, PartAsked, JoinAsked, WireAsked}
 use Rattle.drawing.proofs.Added.{passed}
 use Rattle.drawing.specs.declared.ends.Site.{Site}
@@ -17,9 +17,11 @@ use Rattle.drawing.specs.declared.ends.WireEnd.{WireEnd}
 use Rattle.drawing.specs.declared.fault.Fault.{Fault}
 use Rattle.drawing.specs.declared.fault.Fault.TheVariants.{Misplaced, Memory}
 use Rattle.grammar.proofs.Asking.{ok_err}
+use Rattle.grammar.proofs.Spoken.{board_says}
 use Rattle.grammar.specs.declared.statement.Statement.{Statement}
 use Rattle.grammar.specs.declared.statement.Statement.TheVariants as says
-use Rattle.netlist.specs.Drawings.{Takes}
+use Rattle.netlist.specs.Drawings.{Takes, LineSays}
+use Rattle.netlist.specs.Files.{Closed}
 use Rattle.netlist.proofs.Taken.{none_some, placed_ok}
 
 -- a question with a number, and what follows it
@@ -51,21 +53,28 @@ placed_numbered place asked add before after f has faults other (inr (a, Ok x, p
 placed_numbered place asked add before after f has faults other (inr (a, Ok x, p, q, inr h)) = absurd (ok_err _ f (sym h.0))
 placed_numbered place asked add before after f has faults other (inr (a, Err e, p, q, h)) = subst (λ f. 0 < fault_number f) (let k = h.0 in cc) (faults a e q)
 
-some_place : {A : Type 0} (o : Option A) (a : A) → o ≡ Some a → o ≡ None → ⊥
-some_place o a e n = none_some a (sym n ∙ e)
+-- the next block has a place, unless the board is closed
+has_site : (blocks : List Block) (current : Option ℕ) → ((current ≡ None) × (0 < length blocks) → ⊥) → next_site blocks current ≡ None → ⊥
+has_site blocks (Some b) open_now e = none_some _ (sym e)
+has_site [] None open_now e = none_some _ (sym e)
+has_site (b ∷ blocks) None open_now e = open_now (refl, omega arith)
 
--- the next block goes into the open block
-pub site_in : (blocks : List Block) (current : Option ℕ) (b : ℕ) → current ≡ Some b → next_site blocks current ≡ Some (record { parent = b; depth = (block_at blocks b).depth })
-site_in blocks current b e = ap (next_site blocks) e
+-- outside the board, a line opens a block
+in_block : (current : Option ℕ) (line : List ℕ) (n : ℕ) (st : Statement) → ((name : Name) (ins outs : ℕ) → st ≡ says.Open name ins outs → ⊥) → LineSays current line n (Ok st) → current ≡ None → ⊥
+in_block None line n st other said e = let o = (board_says line n st said).2 in other o.0 o.1 o.2 o.3
+in_block (Some b) line n st other said e = none_some b (sym e)
 
--- in an open block, a fault that is not want of memory has a number
-pub numbered : {C : Type 0} (time : Time C) (st : Statement) (before after : Sheet (Catalogue C)) (b : ℕ) (f : Fault) → before.current ≡ Some b → (f ≡ Memory → ⊥) → Takes time st before after (Err f) → 0 < fault_number f
-numbered time (says.Open name ins outs) before after b f e other h =
-    placed_numbered _ _ _ before after f (some_place _ _ (site_in before.plan.blocks before.current b e)) (λ site x q. block_numbered before.plan site name ins outs x q) other h
-numbered time (says.Part name k) before after b f e other h = placed_numbered _ _ _ before after f (some_place _ b e) (λ c x q. part_numbered before.plan c name _ _ x q) other h
-numbered time (says.Wire from to) before after b f e other h = placed_numbered _ _ _ before after f (some_place _ b e) (λ c x q. wire_numbered before.plan c from to x q) other h
-numbered time says.Close before after b f e other (inl h) = absurd (some_place before.current b e h.0)
-numbered time says.Close before after b f e other (inr h) = absurd (ok_err _ f (sym h.2))
+-- a fault that is not want of memory has a number
+pub numbered : {C : Type 0} (time : Time C) (st : Statement) (before after : Sheet (Catalogue C)) (line : List ℕ) (n : ℕ) (f : Fault) → (Closed before → ⊥) → LineSays before.current line n (Ok st) →
+    (f ≡ Memory → ⊥) → Takes time st before after (Err f) → 0 < fault_number f
+numbered time (says.Open name ins outs) before after line n f open_now said other h =
+    placed_numbered _ _ _ before after f (has_site before.plan.blocks before.current open_now) (λ site x q. block_numbered before.plan site name ins outs x q) other h
+numbered time (says.Part name k) before after line n f open_now said other h =
+    placed_numbered _ _ _ before after f (in_block before.current line n (says.Part name k) (λ name ins outs p. cc) said) (λ c x q. part_numbered before.plan c name _ _ x q) other h
+numbered time (says.Wire from to) before after line n f open_now said other h =
+    placed_numbered _ _ _ before after f (in_block before.current line n (says.Wire from to) (λ name ins outs p. cc) said) (λ c x q. wire_numbered before.plan c from to x q) other h
+numbered time says.Close before after line n f open_now said other (inl h) = absurd (in_block before.current line n says.Close (λ name ins outs p. cc) said h.0)
+numbered time says.Close before after line n f open_now said other (inr h) = absurd (ok_err _ f (sym h.2))
 
 -- the open block and the blocks stay
 pub record Stays {P : Type 0} (before after : Sheet P) : Type 0 where
@@ -110,7 +119,7 @@ block_passed l site name ins outs x h =
 pub opens : {P : Type 0} (name : Name) (ins outs : ℕ) (before after : Sheet P) (b : ℕ) → before.current ≡ Some b → OpensBlock name ins outs before after (Ok tt) → OpenedIn before after b
 opens name ins outs before after b e h =
     let a = placed_ok _ _ _ before after h in
-    let site : a.where_to ≡ record { parent = b; depth = (block_at before.plan.blocks b).depth } = let p = a.placed in let q = site_in before.plan.blocks before.current b e in cc in
+    let site : a.where_to ≡ record { parent = b; depth = (block_at before.plan.blocks b).depth } = let p = a.placed in let q = ap (next_site before.plan.blocks) e in cc in
     let made = block_passed before.plan a.where_to name ins outs a.what a.passed in
     record {
       inner = a.what;
@@ -121,26 +130,29 @@ opens name ins outs before after b e h =
       open_now = ap (λ (s : Sheet _). s.current) a.is;
     }
 
--- the board is opened on a blank sheet: a fault that is not want of memory has a number
-pub board_numbered : {P : Type 0} (name : Name) (ins outs : ℕ) (before after : Sheet P) (f : Fault) → before ≡ blank → (f ≡ Memory → ⊥) → OpensBlock name ins outs before after (Err f) → 0 < fault_number f
-board_numbered name ins outs before after f e other h =
-    placed_numbered _ _ _ before after f (some_place _ _ (ap (λ (s : Sheet _). next_site s.plan.blocks s.current) e)) (λ site x q. block_numbered before.plan site name ins outs x q) other h
-
--- and it is open then
+-- the board is open
 pub record BoardOpen {P : Type 0} (after : Sheet P) : Type 0 where
   pub board : Block
   pub deep : board.depth ≡ 1
   pub blocks : after.plan.blocks ≡ board ∷ []
   pub open_now : after.current ≡ Some 0
 
-pub opens_board : {P : Type 0} (name : Name) (ins outs : ℕ) (before after : Sheet P) → before ≡ blank → OpensBlock name ins outs before after (Ok tt) → BoardOpen after
-opens_board name ins outs before after e h =
-    let a = placed_ok _ _ _ before after h in
-    let site : a.where_to ≡ record { parent = 0; depth = 0 } = let p = a.placed in let q = ap (λ (s : Sheet _). next_site s.plan.blocks s.current) e in cc in
-    let made = block_passed before.plan a.where_to name ins outs a.what a.passed in
+opens_board : {P : Type 0} (name : Name) (ins outs : ℕ) (after : Sheet P) → OpensBlock name ins outs blank after (Ok tt) → BoardOpen after
+opens_board name ins outs after h =
+    let a = placed_ok _ _ _ blank after h in
+    let site : a.where_to ≡ record { parent = 0; depth = 0 } = let p = a.placed in cc in
+    let made = block_passed nothing a.where_to name ins outs a.what a.passed in
     record {
       board = a.what;
       deep = ap (λ (x : Block). x.depth) made.1 ∙ ap (λ (x : Site). x.depth + 1) site;
-      blocks = ap (λ (s : Sheet _). s.plan.blocks) a.is ∙ ap (λ (s : Sheet _). s.plan.blocks ++ a.what ∷ []) e;
-      open_now = ap (λ (s : Sheet _). s.current) a.is ∙ ap (λ (s : Sheet _). Some (length s.plan.blocks)) e;
+      blocks = ap (λ (s : Sheet _). s.plan.blocks) a.is;
+      open_now = ap (λ (s : Sheet _). s.current) a.is;
     }
+
+-- where nothing is drawn, only a block is accepted
+pub board_open : {C : Type 0} (time : Time C) (st : Statement) (after : Sheet (Catalogue C)) → Takes time st blank after (Ok tt) → BoardOpen after
+board_open time (says.Open name ins outs) after h = opens_board name ins outs after h
+board_open time (says.Part name k) after h = absurd (none_some _ (placed_ok _ _ _ blank after h).placed)
+board_open time (says.Wire from to) after h = absurd (none_some _ (placed_ok _ _ _ blank after h).placed)
+board_open time says.Close after (inl h) = absurd (ok_err _ Misplaced h.1)
+board_open time says.Close after (inr h) = absurd (none_some h.0 h.1)

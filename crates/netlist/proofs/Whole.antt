@@ -1,27 +1,30 @@
 -- A whole file: its first line, and its board.
-use Rattle.std.proofs.Common.{◌≡◌, ℕ, suc, ◌+◌, ◌-◌, ◌<◌, ◌⊎◌, List, [], ◌∷◌, length, get_or, Some, Ok, Err, Result, sym, refl, ap, ◌∙◌, subst, inl, inr, ⊎_elim, arith}
+use Rattle.std.proofs.Common.{◌≡◌, ℕ, suc, ◌+◌, ◌-◌, ◌<◌, ◌⊎◌, List, [], ◌∷◌, length, get_or, Some, Ok, Err, Result, IsErrAnd, MatchResult, sym, refl, ap, ◌∙◌, subst, inl, inr, ⊎_elim, arith}
 use Rattle.std.proofs.lemmas.Bool.{cases_eq}
 use Rattle.clock.specs.Time.{Time}
-use Rattle.part.specs.declared.catalogue.Catalogue.{Catalogue}
-use Rattle.drawing.specs.Calls.{Sheet, blank}
+use Rattle.drawing.specs.Calls.{sheet, blank}
 use Rattle.grammar.specs.declared.fault.LineFault.{LineFault}
 use Rattle.grammar.specs.declared.fault.LineFault.TheVariants.{Text}
+use Rattle.grammar.specs.declared.fault.TextFault.{TextFault}
 use Rattle.grammar.specs.declared.fault.TextFault.TheVariants.{BadSize}
 use Rattle.grammar.specs.declared.fault.Verdict.{Verdict}
 use Rattle.grammar.specs.declared.statement.Header.{Header}
 use Rattle.grammar.specs.Pieces.{split, onto}
 use Rattle.grammar.specs.Rules.{HeaderLine}
 use Rattle.grammar.specs.Verdicts.{line_verdict}
+use Rattle.grammar.proofs.Asking.{ok_err}
 use Rattle.grammar.proofs.Rejoining.{split_some}
 use Rattle.grammar.proofs.Splitting.{split_onto, split_here}
+use Rattle.netlist.specs.declared.blocks.Reader.{Reader}
 use Rattle.netlist.specs.declared.fault.BlockFault.{BlockFault}
 use Rattle.netlist.specs.declared.fault.BlockFault.TheVariants as block
 use Rattle.netlist.specs.declared.lines.Lines.{Lines}
-use Rattle.netlist.specs.Files.{Reading, Closed, Goes, Sized, LinesGive, FileGives, Agrees}
-use Rattle.netlist.specs.Reads.{HeaderRead, BoardRead}
-use Rattle.netlist.specs.Steps.{Line, FromHere, Stops}
+use Rattle.netlist.specs.Files.{Reading, Goes, Sized, LinesGive, FileGives}
+use Rattle.netlist.specs.Reads.{HeaderRead, BoardRead, AllRead}
+use Rattle.netlist.specs.Steps.{Begins, Line, undrawn, FromHere}
 use Rattle.netlist.specs.Verdicts.{block_verdict}
 use Rattle.netlist.proofs.Going.{closed_here}
+use Rattle.netlist.proofs.Taken.{ok_same}
 
 onto_length : (b : ℕ) (pieces : List (List ℕ)) → 0 < length pieces → length (onto b pieces) ≡ length pieces
 onto_length b [] some = absurd (omega arith)
@@ -38,13 +41,6 @@ ends_more separator (b ∷ c ∷ text) some e =
     let rest = ends_more separator (c ∷ text) (omega arith) (ap (λ k. get_or (b ∷ c ∷ text) k 0) {x = suc (length (c ∷ text) - 1)} {y = length (b ∷ c ∷ text) - 1} (omega arith) ∙ e) in
     omega (arith, ap length (split_onto separator b (c ∷ text) other), onto_length b (split separator (c ∷ text)) (split_some separator (c ∷ text))))
     (cases_eq b separator)
-
--- the reader begins at the first line
-pub record Begins (file : List ℕ) (before : Lines) : Type 0 where
-  pub sized : Sized file
-  pub rest : before.rest.now ≡ file
-  pub number : before.number ≡ 1
-  pub taken : before.taken ≡ 0
 
 -- the first line is read
 record FirstLine (file : List ℕ) (after : Lines) (line : List ℕ) : Type 0 where
@@ -66,17 +62,34 @@ never_missing file before last b e =
     let more = ends_more 10 file b.sized.some b.sized.ended in
     omega (arith, ap (λ t. length (split 10 t)) b.rest, ap length e)
 
+-- a fault and the verdict that the file gives, or want of memory
+abbrev pub Refused : {C : Type 0} → Time C → List ℕ → BlockFault → Type 0
+Refused time file e = (e ≡ block.Memory) ⊎ ((v : Verdict) × (block_verdict e ≡ Some v) × FileGives time file (Err v))
+
 module _ {C : Type 0} (time : Time C) (file : List ℕ) where
-  pub not_sized : (e : LineFault) (y : BlockFault) → (Sized file → ⊥) → e ≡ Text BadSize → y ≡ block.Line e → (y ≡ block.Memory) ⊎ ((v : Verdict) × (block_verdict y ≡ Some v) × FileGives time file (Err v))
-  not_sized e y bad p q = inr (line_verdict e, ap block_verdict q, inl (bad, ap (λ x. Err (line_verdict x)) p))
+  -- the `?` hands on a fault that the file has
+  pub hands_on_refused : {T : Type 0} (P : T → Type 0) (e : BlockFault) (r : Result T BlockFault) → IsErrAnd r (λ y. y ≡ e) → Refused time file e → MatchResult r P (λ y. Refused time file y)
+  hands_on_refused P e (Ok x) h refused = absurd h
+  hands_on_refused P e (Err y) h refused = subst (Refused time file) (sym h) refused
+
+  -- the file has no size that is read
+  pub size_stops : (r : Result Lines TextFault) (e : LineFault) → MatchResult r (λ lines. Begins file lines) (λ f. (Sized file → ⊥) × (f ≡ BadSize)) →
+      MatchResult r (λ lines. ◌≡◌ {A = Result Lines LineFault} (Err e) (Ok lines)) (λ f. IsErrAnd {T = Lines} (Err e) (λ y. y ≡ Text f)) → Refused time file (block.Line e)
+  size_stops (Ok lines) e h c = absurd (ok_err lines e (sym c))
+  size_stops (Err f) e (bad, is) c = inr (line_verdict e, refl, inl (bad, ap (λ x. Err (line_verdict x)) (c ∙ ap Text is)))
+
+  pub begins : (r : Result Lines TextFault) (lines : Lines) → MatchResult r (λ lines. Begins file lines) (λ f. (Sized file → ⊥) × (f ≡ BadSize)) →
+      MatchResult r (λ x. ◌≡◌ {A = Result Lines LineFault} (Ok lines) (Ok x)) (λ f. IsErrAnd {T = Lines} (Ok lines) (λ y. y ≡ Text f)) → Begins file lines
+  begins (Ok x) lines h c = subst (Begins file) (ok_same lines x (sym c)) h
+  begins (Err f) lines h c = absurd c
 
   module _ (before after : Lines) (b : Begins file before) where
-    pub header_stops : (e : LineFault) (y : BlockFault) → HeaderRead before after (Err e) → y ≡ block.Line e → (y ≡ block.Memory) ⊎ ((v : Verdict) × (block_verdict y ≡ Some v) × FileGives time file (Err v))
-    header_stops e y (inl (line, l, h)) q =
+    pub header_stops : (e : LineFault) → HeaderRead before after (Err e) → Refused time file (block.Line e)
+    header_stops e (inl (line, l, h)) =
         let f = first_line file before after line b l in
         let at_one = subst (λ n. HeaderLine line n (Err (line_verdict e))) b.number h in
-        inr (line_verdict e, ap block_verdict q, inr ((λ bad. bad b.sized), subst (λ ps. LinesGive time ps (Err (line_verdict e))) (sym f.pieces) (inl (line_verdict e, at_one, refl))))
-    header_stops e y (inr (last, m, h)) q = absurd (never_missing file before last b m)
+        inr (line_verdict e, refl, inr ((λ bad. bad b.sized), subst (λ ps. LinesGive time ps (Err (line_verdict e))) (sym f.pieces) (inl (line_verdict e, at_one, refl))))
+    header_stops e (inr (last, m, h)) = absurd (never_missing file before last b m)
 
     -- what the first line said
     header_said : (h : Header) → HeaderRead before after (Ok h) → (line : List ℕ) × FirstLine file after line × HeaderLine line 1 (Ok h)
@@ -84,36 +97,23 @@ module _ {C : Type 0} (time : Time C) (file : List ℕ) where
     header_said h (inr (last, m, k)) = absurd (never_missing file before last b m)
 
     -- what the board gives, the file gives
-    from_board : (s : Sheet (Catalogue C)) (line : List ℕ) (out : Result (Reading C) Verdict) → s ≡ blank → FirstLine file after line → FromHere time after s out → Goes time (split 10 after.rest.now) 2 (length line + 1) blank out
-    from_board s line out nothing f g =
-        let at-number = subst (λ n. Goes time (split 10 after.rest.now) n after.taken s out) f.number g in
-        let at-bytes = subst (λ k. Goes time (split 10 after.rest.now) 2 k s out) f.taken at-number in
-        subst (λ x. Goes time (split 10 after.rest.now) 2 (length line + 1) x out) nothing at-bytes
+    from_board : (line : List ℕ) (out : Result (Reading C) Verdict) → FirstLine file after line → FromHere time (undrawn after) out → Goes time (split 10 after.rest.now) 2 (length line + 1) blank out
+    from_board line out f g =
+        let at_number = subst (λ n. Goes time (split 10 after.rest.now) n after.taken blank out) f.number g in
+        subst (λ k. Goes time (split 10 after.rest.now) 2 k blank out) f.taken at_number
 
-    pub board_stops : (s : Sheet (Catalogue C)) (h : Header) (e y : BlockFault) → s ≡ blank → HeaderRead before after (Ok h) → Stops time after s e → y ≡ e →
-        (y ≡ block.Memory) ⊎ ((v : Verdict) × (block_verdict y ≡ Some v) × FileGives time file (Err v))
-    board_stops s h e y nothing r (inl m) q = inl (q ∙ m)
-    board_stops s h e y nothing r (inr (v, k, g)) q =
+    pub board_stops : (h : Header) (e : BlockFault) → HeaderRead before after (Ok h) → BoardRead time after (Err e) → Refused time file e
+    board_stops h e r (inl m) = inl m
+    board_stops h e r (inr (v, k, g)) =
         let said = header_said h r in
-        inr (
-          v,
-          ap block_verdict q ∙ k,
-          inr (
-            (λ bad. bad b.sized),
-            subst (λ ps. LinesGive time ps (Err v)) (sym said.1.pieces) (inr (h, said.2, inl (v, from_board s said.0 (Err v) nothing said.1 g, refl))),
-          ),
-        )
+        inr (v, k, inr ((λ bad. bad b.sized), subst (λ ps. LinesGive time ps (Err v)) (sym said.1.pieces) (inr (h, said.2, inl (v, from_board said.0 (Err v) said.1 g, refl)))))
 
-    pub all_read : (s t : Sheet (Catalogue C)) (end : Lines) (h : Header) → s ≡ blank → HeaderRead before after (Ok h) → BoardRead time after s end t (Ok tt) →
-        Closed t × ((out : Result (Reading C) Verdict) → Agrees h (record { sheet = t; bytes = end.taken }) out → FileGives time file out)
-    all_read s t end h nothing r (closed, c) =
+    pub all_read : (h : Header) (end : Reader C) → HeaderRead before after (Ok h) → BoardRead time after (Ok end) →
+        AllRead time file (Ok (record { header = h; drawing = end.drawing; bytes = end.lines.taken }))
+    all_read h end r (closed, c) =
         let said = header_said h r in
-        let d : Reading C = record { sheet = t; bytes = end.taken } in
-        let goes = from_board s said.0 (Ok d) nothing said.1 (c (Ok d) (closed_here time (split 10 end.rest.now) end.number end.taken t closed)) in (
+        let d : Reading C = record { sheet = sheet end.drawing; bytes = end.lines.taken } in
+        let goes = from_board said.0 (Ok d) said.1 (c (Ok d) (closed_here time (split 10 end.lines.rest.now) end.lines.number end.lines.taken (sheet end.drawing) closed)) in (
           closed,
-          λ out agrees.
-              inr (
-                (λ bad. bad b.sized),
-                subst (λ ps. LinesGive time ps out) (sym said.1.pieces) (inr (h, said.2, inr (d, goes, agrees))),
-              ),
+          λ out agrees. inr ((λ bad. bad b.sized), subst (λ ps. LinesGive time ps out) (sym said.1.pieces) (inr (h, said.2, inr (d, goes, agrees)))),
         )

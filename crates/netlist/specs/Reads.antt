@@ -2,7 +2,7 @@
 use Rattle.std.specs.Prelude.{◌≡◌, ℕ, ◌⊎◌, List, [], ◌∷◌, length, IfOk, Some, None, Ok, Err, vec_items, Result, MatchResult, ◌≢◌}
 use Rattle.clock.specs.Time.{Time}
 use Rattle.part.specs.declared.catalogue.Catalogue.{Catalogue}
-use Rattle.drawing.specs.Calls.{Sheet}
+use Rattle.drawing.specs.Calls.{sheet}
 use Rattle.drawing.specs.Lists.{Lists, lists}
 use Rattle.grammar.specs.declared.fault.LineFault.{LineFault}
 use Rattle.grammar.specs.declared.fault.LineFault.TheVariants.{Missing}
@@ -12,16 +12,17 @@ use Rattle.grammar.specs.declared.statement.Statement.{Statement}
 use Rattle.grammar.specs.Pieces.{split}
 use Rattle.grammar.specs.Rules.{Asks, HeaderLine}
 use Rattle.grammar.specs.Verdicts.{judged, line_verdict}
+use Rattle.netlist.specs.declared.blocks.Reader.{Reader}
 use Rattle.netlist.specs.declared.fault.BlockFault.{BlockFault}
 use Rattle.netlist.specs.declared.fault.BlockFault.TheVariants.{Memory}
 use Rattle.netlist.specs.declared.fault.BoardFault.{BoardFault}
 use Rattle.netlist.specs.declared.fault.BoardFault.TheVariants.{Block, Disagrees}
 use Rattle.netlist.specs.declared.lines.Lines.{Lines}
-use Rattle.netlist.specs.declared.reader.Counted.{Counted}
+use Rattle.netlist.specs.declared.reader.Drawn.{Drawn}
 use Rattle.netlist.specs.declared.reader.Netlist.{Netlist}
 use Rattle.netlist.specs.Files.{Reading, Closed, Agrees, FileGives}
 use Rattle.netlist.specs.Netlists.{Writes}
-use Rattle.netlist.specs.Steps.{Line, Inside, around, Continues, Stops}
+use Rattle.netlist.specs.Steps.{Line, place, undrawn, Continues, Stops}
 use Rattle.netlist.specs.Verdicts.{block_verdict, board_verdict}
 
 -- what a netlist that was read holds
@@ -34,19 +35,15 @@ HeaderRead before after r =
     ((line : List ℕ) × Line before line after × HeaderLine line before.number (judged line_verdict r))
     ⊎ ((last : List ℕ) × (split 10 before.rest.now ≡ last ∷ []) × (r ≡ Err (Missing before.number)))
 
--- the board is opened
-abbrev pub BoardOpened : {C : Type 0} → Time C → Lines → Sheet (Catalogue C) → Lines → Sheet (Catalogue C) → Result Unit BlockFault → Type 0
-BoardOpened time before s after t r = MatchResult r (λ _. Inside t 7 × (around t t.current ≡ None) × Continues time before s after t) (λ e. Stops time before s e)
-
--- the board is read to its end
-abbrev pub BoardRead : {C : Type 0} → Time C → Lines → Sheet (Catalogue C) → Lines → Sheet (Catalogue C) → Result Unit BlockFault → Type 0
-BoardRead time before s after t r = MatchResult r (λ _. Closed t × Continues time before s after t) (λ e. Stops time before s e)
+-- the board is read to its end, after the first line
+abbrev pub BoardRead : {C : Type 0} → Time C → Lines → Result (Reader C) BlockFault → Type 0
+BoardRead time lines r = MatchResult r (λ end. Closed (sheet end.drawing) × Continues time (undrawn lines) (place end)) (λ e. Stops time (undrawn lines) e)
 
 -- the first line and the board are read: what the file gives is left to the counts of the first line
-abbrev pub AllRead : {C : Type 0} → Time C → List ℕ → Sheet (Catalogue C) → Result Counted BlockFault → Type 0
-AllRead {C} time file t r =
+abbrev pub AllRead : {C : Type 0} → Time C → List ℕ → Result (Drawn C) BlockFault → Type 0
+AllRead {C} time file r =
     MatchResult r
-    (λ c. Closed t × ((out : Result (Reading C) Verdict) → Agrees c.header (record { sheet = t; bytes = c.bytes }) out → FileGives time file out))
+    (λ d. Closed (sheet d.drawing) × ((out : Result (Reading C) Verdict) → Agrees d.header (record { sheet = sheet d.drawing; bytes = d.bytes }) out → FileGives time file out))
     (λ e. (e ≡ Memory) ⊎ ((v : Verdict) × (block_verdict e ≡ Some v) × FileGives time file (Err v)))
 
 -- the counts of the first line are asked about in their order

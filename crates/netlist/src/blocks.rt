@@ -1,49 +1,50 @@
 // The block layer: items are read one after another, and blocks in blocks.
-ghost use Rattle.std.specs.Prelude.{◌≡◌, ◌+◌, ◌<◌, ◌⊎◌, MatchResult};
+ghost use Rattle.std.specs.Prelude.{◌≡◌};
 ghost use Rattle.drawing.specs.Calls.{sheet, Kept};
 ghost use Rattle.grammar.specs.Statements.{KindInRange, InRange};
-ghost use Rattle.netlist.specs.Drawings.{start_of, ins_of, outs_of, Takes};
-ghost use Rattle.netlist.specs.Steps.{Answers, Applies, Opened, Inside, StatementRead, ItemRead, BlockRead};
-ghost use Rattle.netlist.specs.declared.fault.BlockFault.TheVariants.{Refused, Memory};
+ghost use Rattle.grammar.specs.Verdicts.{judged, line_verdict};
+ghost use Rattle.netlist.specs.Drawings.{start_of, ins_of, outs_of, Takes, LineSays};
+ghost use Rattle.netlist.specs.Files.{Closed};
+ghost use Rattle.netlist.specs.Steps.{RefusedAs, Applies, Inside, place, StatementRead, ItemRead, BlockRead};
 
 use crate::fault::BlockFault;
 use crate::lines::Lines;
 use clock::clock::Clock;
 use drawing::drawing::Drawing;
 use drawing::fault::Fault;
-use grammar::rules::item_line;
+use grammar::fault::LineFault;
+use grammar::rules::{board_line, item_line};
 use grammar::statement::{PartKind, Statement};
 use part::catalogue::Catalogue;
 use part::generator::Gen;
 use part::line::Line;
 use part::uart::Uart;
+use std::ops::ControlFlow;
 
-// Whether an item ends its block.
+// The lines that are left to read, and what those before them draw.
+#[derive(Drop)]
+pub(crate) struct Reader<'a, C> {
+    pub(crate) lines: Lines<'a>,
+    pub(crate) drawing: Drawing<Catalogue<C>>,
+}
+
+// How many pins a part has.
 #[derive(Clone, Copy)]
-pub(crate) enum Progress {
-    More,
-    Closes,
+struct PinCounts {
+    ins: u8,
+    outs: u8,
 }
 
-// The pins of a kind: inputs, and outputs.
-fn ins_of(kind: PartKind) -> u8
-    ensures value { result ≡ ins_of kind }
+// The pins of a kind.
+fn pins_of(kind: PartKind) -> PinCounts
+    ensures inputs { result.ins ≡ ins_of kind }
+    ensures outputs { result.outs ≡ outs_of kind }
 {
-    match kind {
-        PartKind::Gen { .. } => 1,
-        PartKind::Uart { .. } => 1,
-        PartKind::Line { .. } => 1,
-    }
-}
-
-fn outs_of(kind: PartKind) -> u8
-    ensures value { result ≡ outs_of kind }
-{
-    match kind {
-        PartKind::Gen { .. } => 1,
+    let outs = match kind {
+        PartKind::Gen { .. } | PartKind::Line { .. } => 1,
         PartKind::Uart { .. } => 2,
-        PartKind::Line { .. } => 1,
-    }
+    };
+    PinCounts { ins: 1, outs }
 }
 
 // The start state of a kind whose numbers are in range.
@@ -56,26 +57,19 @@ fn start_of<C: Clock>(kind: PartKind) -> Catalogue<C>
             period,
             value,
             step,
-        } => match Gen::new(period, value, step) {
-            Some(part) => Catalogue::Gen(part),
-            None => unreachable(),
-        },
-        PartKind::Uart { baud } => match Uart::new(baud) {
-            Some(part) => Catalogue::Uart(part),
-            None => unreachable(),
-        },
+        } => Catalogue::Gen(Gen::new(period, value, step).unwrap()),
+        PartKind::Uart { baud } => Catalogue::Uart(Uart::new(baud).unwrap()),
         PartKind::Line { delay } => Catalogue::Line(Line::new(delay)),
     }
 }
 
-// What the drawing answers, as the answer to a line.
-fn answered(answer: Result<(), Fault>, line: usize) -> Result<(), BlockFault>
-    ensures value { Answers line answer result }
+// What a line says: outside the board, or in a block.
+fn said(current: Option<usize>, line: &[u8], number: usize) -> Result<Statement, LineFault>
+    ensures asks_in_order { LineSays current line.now number (judged line_verdict result) }
 {
-    match answer {
-        Ok(()) => Ok(()),
-        Err(Fault::Memory) => Err(BlockFault::Memory),
-        Err(fault) => Err(BlockFault::Refused { fault, line }),
+    match current {
+        None => board_line(line, number),
+        Some(_) => item_line(line, number),
     }
 }
 
@@ -88,16 +82,26 @@ fn take<C: Clock>(drawing: &mut Drawing<Catalogue<C>>, statement: Statement) -> 
     match statement {
         Statement::Open { name, ins, outs } => drawing.open_block(name, ins, outs),
         Statement::Part { name, kind } => {
-            let start = start_of(kind);
-            drawing.add_part(name, ins_of(kind), outs_of(kind), start)
+            let PinCounts { ins, outs } = pins_of(kind);
+            drawing.add_part(name, ins, outs, start_of(kind))
         }
         Statement::Wire { from, to } => drawing.add_wire(from, to),
         Statement::Close => drawing.close_block(),
     }
 }
 
+// Why line `line` is refused, where the drawing refuses what it says.
+fn refusal_of(fault: Fault, line: usize) -> BlockFault
+    ensures names_the_fault { RefusedAs fault line result }
+{
+    match fault {
+        Fault::Memory => BlockFault::Memory,
+        fault => BlockFault::Refused { fault, line },
+    }
+}
+
 // Carries out what line `line` says.
-pub(crate) fn apply<C: Clock>(
+fn apply<C: Clock>(
     drawing: &mut Drawing<Catalogue<C>>,
     statement: Statement,
     line: usize,
@@ -105,60 +109,45 @@ pub(crate) fn apply<C: Clock>(
     requires in_range { InRange statement }
     ensures carries_it_out { Applies C.Clock.time statement line (sheet drawing.old) (sheet drawing.new) result }
 {
-    let answer = take(drawing, statement);
-    answered(answer, line)
+    take(drawing, statement).map_err(|fault| refusal_of(fault, line))
 }
 
-// Reads the next line and carries out what it says in the open block.
-fn next_statement<C: Clock>(
-    lines: &mut Lines,
-    drawing: &mut Drawing<Catalogue<C>>,
-) -> Result<Statement, BlockFault>
-    requires inside { Opened (sheet drawing.old) }
-    ensures takes_it_or_refuses { StatementRead C.Clock.time lines.old (sheet drawing.old) lines.new (sheet drawing.new) result }
-{
-    let number = lines.number;
-    let line = lines.next_line()?;
-    let statement = item_line(line, number)?;
-    apply(drawing, statement, number)?;
-    Ok(statement)
-}
-
-// One item of the open block; a block is read to its end. `levels` more levels fit into the open block.
-#[cycle(read_block_read_item)]
-fn read_item<C: Clock>(
-    lines: &mut Lines,
-    drawing: &mut Drawing<Catalogue<C>>,
-    levels: u8,
-) -> Result<Progress, BlockFault>
-    requires inside { Inside (sheet drawing.old) levels }
-    ensures reads_or_refuses { ItemRead C.Clock.time lines.old (sheet drawing.old) lines.new (sheet drawing.new) result }
-{
-    match next_statement(lines, drawing)? {
-        Statement::Open { .. } => {
-            read_block(lines, drawing, levels - 1)?;
-            Ok(Progress::More)
-        }
-        Statement::Part { .. } => Ok(Progress::More),
-        Statement::Wire { .. } => Ok(Progress::More),
-        Statement::Close => Ok(Progress::Closes),
+impl<C: Clock> Reader<'_, C> {
+    // Reads the next line, and carries out what it says.
+    pub(crate) fn next_statement(&mut self) -> Result<Statement, BlockFault>
+        requires not_closed { Closed (sheet self.old.drawing) → ⊥ }
+        ensures takes_it_or_refuses { StatementRead C.Clock.time (place self.old) (place self.new) result }
+    {
+        let number = self.lines.number;
+        let line = self.lines.next_line()?;
+        let statement = said(self.drawing.current, line, number)?;
+        apply(&mut self.drawing, statement, number)?;
+        Ok(statement)
     }
-}
 
-// The items of the open block, to its end.
-#[cycle(read_block_read_item)]
-pub(crate) fn read_block<C: Clock>(
-    lines: &mut Lines,
-    drawing: &mut Drawing<Catalogue<C>>,
-    levels: u8,
-) -> Result<(), BlockFault>
-    requires inside { Inside (sheet drawing.old) levels }
-    ensures reads_or_refuses { BlockRead C.Clock.time lines.old (sheet drawing.old) lines.new (sheet drawing.new) result }
-{
-    'items: loop {
-        match read_item(lines, drawing, levels)? {
-            Progress::More => {}
-            Progress::Closes => return Ok(()),
+    // One item of the open block; a block is read to its end. `levels` more levels fit into the open block. It breaks where the block ends.
+    #[cycle(read_block_read_item)]
+    fn read_item(&mut self, levels: u8) -> Result<ControlFlow<()>, BlockFault>
+        requires inside { Inside (sheet self.old.drawing) levels }
+        ensures reads_or_refuses { ItemRead C.Clock.time (place self.old) (place self.new) result }
+    {
+        match self.next_statement()? {
+            Statement::Open { .. } => {
+                self.read_block(levels - 1)?;
+                Ok(ControlFlow::Continue(()))
+            }
+            Statement::Part { .. } | Statement::Wire { .. } => Ok(ControlFlow::Continue(())),
+            Statement::Close => Ok(ControlFlow::Break(())),
         }
+    }
+
+    // The items of the open block, to its end.
+    #[cycle(read_block_read_item)]
+    pub(crate) fn read_block(&mut self, levels: u8) -> Result<(), BlockFault>
+        requires inside { Inside (sheet self.old.drawing) levels }
+        ensures reads_or_refuses { BlockRead C.Clock.time (place self.old) (place self.new) result }
+    {
+        'items: while self.read_item(levels)?.is_continue() {}
+        Ok(())
     }
 }

@@ -22,6 +22,7 @@ pub enum BoardFault {
     Disagrees { field: usize },
 }
 
+// kept: each `From` stands by hand, since a derived one promises nothing, and clauses name the fault that a `?` makes
 impl From<LineFault> for BlockFault {
     ghost from_gives = { λ e r. r ≡ Line e };
 

@@ -1,23 +1,20 @@
 // The reader of netlist files.
-ghost use Rattle.std.specs.Prelude.{◌≡◌, IfOk, MatchResult};
-ghost use Rattle.drawing.specs.Calls.{sheet, blank};
+ghost use Rattle.std.specs.Prelude.{◌≡◌, ◌≢◌, IfOk};
 ghost use Rattle.drawing.specs.Lists.{lists};
-ghost use Rattle.grammar.specs.declared.fault.LineFault.TheVariants.{Text};
-ghost use Rattle.grammar.specs.declared.fault.TextFault.TheVariants.{BadSize};
-ghost use Rattle.netlist.specs.Files.{Sized};
+ghost use Rattle.grammar.specs.Rules.{Asks};
+ghost use Rattle.netlist.specs.declared.fault.BoardFault.TheVariants.{Disagrees};
 ghost use Rattle.netlist.specs.Netlists.{Sound};
-ghost use Rattle.netlist.specs.Reads.{HeaderRead, BoardOpened, BoardRead, AllRead, Agreed, Gives, AcceptsOnly, AcceptsEvery, Refuses, OneOutcome};
+ghost use Rattle.netlist.specs.Reads.{HeaderRead, BoardRead, AllRead, Agreed, Gives, AcceptsOnly, AcceptsEvery, Refuses, OneOutcome};
 
-use crate::blocks::{apply, read_block};
+use crate::blocks::Reader;
 use crate::fault::{BlockFault, BoardFault};
 use crate::lines::Lines;
-use crate::text::sized;
 use board::nested::Board;
 use board::plan::Plan;
 use clock::clock::Clock;
 use drawing::drawing::Drawing;
 use grammar::fault::LineFault;
-use grammar::rules::{board_line, header_line};
+use grammar::rules::header_line;
 use grammar::statement::Header;
 use part::catalogue::Catalogue;
 use std::alloc::Global;
@@ -29,19 +26,12 @@ pub struct Netlist<C> {
     pub bytes: usize,
 }
 
-// What the first line says, and how many bytes are read.
-#[derive(Clone, Copy)]
-struct Counted {
+// What the first line says, what the lines after it draw, and how many bytes are read.
+#[derive(Drop)]
+struct Drawn<C> {
     header: Header,
+    drawing: Drawing<Catalogue<C>>,
     bytes: usize,
-}
-
-// Whether the file has a size that is read at all.
-fn checked(file: &[u8]) -> Result<(), LineFault>
-    ensures passes_or_refuses { MatchResult result (λ _. Sized file.now) (λ e. (Sized file.now → ⊥) × (e ≡ Text BadSize)) }
-{
-    sized(file)?;
-    Ok(())
 }
 
 // What the first line says.
@@ -53,62 +43,49 @@ fn read_header(lines: &mut Lines) -> Result<Header, LineFault>
     header_line(line, number)
 }
 
-// The line that opens the board.
-fn open_board<C: Clock>(
-    lines: &mut Lines,
-    drawing: &mut Drawing<Catalogue<C>>,
-) -> Result<(), BlockFault>
-    requires nothing_is_drawn { sheet drawing.old ≡ blank }
-    ensures opens_or_refuses { BoardOpened C.Clock.time lines.old (sheet drawing.old) lines.new (sheet drawing.new) result }
+// The line that opens the board, and the board to its end.
+fn read_drawing<C: Clock>(lines: Lines<'_>, heap: Global) -> Result<Reader<'_, C>, BlockFault>
+    ensures reads_or_refuses { BoardRead C.Clock.time lines.entry result }
 {
-    let number = lines.number;
-    let line = lines.next_line()?;
-    let statement = board_line(line, number)?;
-    apply(drawing, statement, number)
-}
-
-// The board, to its end.
-fn read_drawing<C: Clock>(
-    lines: &mut Lines,
-    drawing: &mut Drawing<Catalogue<C>>,
-) -> Result<(), BlockFault>
-    requires nothing_is_drawn { sheet drawing.old ≡ blank }
-    ensures reads_or_refuses { BoardRead C.Clock.time lines.old (sheet drawing.old) lines.new (sheet drawing.new) result }
-{
-    open_board(lines, drawing)?;
-    read_block(lines, drawing, 7)
+    let drawing = Drawing::new(heap);
+    let mut reader = Reader { lines, drawing };
+    reader.next_statement()?;
+    reader.read_block(7)?;
+    Ok(reader)
 }
 
 // The first line, and the board.
-fn read_all<C: Clock>(
-    file: &[u8],
-    drawing: &mut Drawing<Catalogue<C>>,
-) -> Result<Counted, BlockFault>
-    requires nothing_is_drawn { sheet drawing.old ≡ blank }
-    ensures reads_or_refuses { AllRead C.Clock.time file.now (sheet drawing.new) result }
+fn read_all<C: Clock>(file: &[u8], heap: Global) -> Result<Drawn<C>, BlockFault>
+    ensures reads_or_refuses { AllRead C.Clock.time file.now result }
 {
-    checked(file)?;
-    let mut lines = Lines::of(file);
+    let mut lines = Lines::of(file).map_err(LineFault::from)?;
     let header = read_header(&mut lines)?;
-    read_drawing(&mut lines, drawing)?;
-    let bytes = lines.taken;
-    Ok(Counted { header, bytes })
+    let Reader { lines, drawing } = read_drawing(lines, heap)?;
+    Ok(Drawn {
+        header,
+        drawing,
+        bytes: lines.taken,
+    })
+}
+
+// Whether field `field` of the first line counts what was found.
+fn counts(field: usize, told: u16, found: usize) -> Result<(), BoardFault>
+    ensures asks { Asks (told ≢ found) (result ≡ Err (Disagrees field)) (result ≡ Ok tt) }
+{
+    if usize::from(told) == found {
+        Ok(())
+    } else {
+        Err(BoardFault::Disagrees { field })
+    }
 }
 
 // Whether the first line agrees with the board.
 fn agrees(header: Header, plan: &Plan) -> Result<(), BoardFault>
     ensures asks_in_order { Agreed header (lists plan.now) result }
 {
-    if usize::from(header.blocks) != plan.blocks.len() {
-        return Err(BoardFault::Disagrees { field: 2 });
-    }
-    if usize::from(header.parts) != plan.components.len() {
-        return Err(BoardFault::Disagrees { field: 3 });
-    }
-    if usize::from(header.wires) != plan.wires.len() {
-        return Err(BoardFault::Disagrees { field: 4 });
-    }
-    Ok(())
+    counts(2, header.blocks, plan.blocks.len())?;
+    counts(3, header.parts, plan.components.len())?;
+    counts(4, header.wires, plan.wires.len())
 }
 
 // Reads a netlist: the board that the file writes, and the bytes that write it.
@@ -120,14 +97,9 @@ pub fn read_board<C: Clock>(file: &[u8], heap: Global) -> Result<Netlist<C>, Boa
     ensures has_one_outcome { OneOutcome C.Clock.time file.now result }
     ensures start_states_are_sound { IfOk result (λ n. Sound C.Clock.time n.board.starts.items) }
 {
-    let mut drawing = Drawing::new(heap);
-    let read = read_all(file, &mut drawing)?;
-    agrees(read.header, &drawing.plan)?;
-    match drawing.finish() {
-        Ok(board) => Ok(Netlist {
-            board,
-            bytes: read.bytes,
-        }),
-        Err(_) => unreachable(),
-    }
+    let drawn = read_all(file, heap)?;
+    agrees(drawn.header, &drawn.drawing.plan)?;
+    let bytes = drawn.bytes;
+    let board = drawn.drawing.finish().unwrap();
+    Ok(Netlist { board, bytes })
 }

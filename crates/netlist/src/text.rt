@@ -1,38 +1,27 @@
 // The text layer: the size of a file, and its lines.
-ghost use Rattle.std.specs.Prelude.{◌≡◌, ℕ, ◌+◌, List, [], ◌∷◌, length, MatchResult};
+ghost use Rattle.std.specs.Prelude.{◌≡◌, ℕ, List, [], ◌∷◌, MatchResult};
 ghost use Rattle.grammar.specs.Pieces.{split};
 ghost use Rattle.grammar.specs.declared.fault.TextFault.TheVariants.{BadSize};
 ghost use Rattle.grammar.specs.declared.fault.LineFault.TheVariants.{Missing};
 ghost use Rattle.netlist.specs.Files.{Sized};
-ghost use Rattle.netlist.specs.Steps.{Line};
+ghost use Rattle.netlist.specs.Steps.{Begins, Line};
 
 use crate::lines::Lines;
 use grammar::cut::first_piece;
 use grammar::fault::{LineFault, TextFault};
 
-// Whether a file has 1 to 32,768 bytes, the last being 10.
-pub(crate) fn sized(file: &[u8]) -> Result<(), TextFault>
-    ensures passes_or_refuses { MatchResult result (λ _. Sized file.now) (λ e. (Sized file.now → ⊥) × (e ≡ BadSize)) }
-{
-    let count = file.len();
-    if count == 0 || count > 32_768 {
-        return Err(TextFault::BadSize);
-    }
-    if file[count - 1] != b'\n' {
-        return Err(TextFault::BadSize);
-    }
-    Ok(())
-}
-
 impl<'a> Lines<'a> {
-    pub(crate) fn of(file: &'a [u8]) -> Lines<'a>
-        requires is_sized { Sized file.now }
-        ensures begins { (result.rest.now ≡ file.now) × (result.number ≡ 1) × (result.taken ≡ 0) }
+    // The lines of a file of 1 to 32,768 bytes, the last being 10.
+    pub(crate) fn of(file: &'a [u8]) -> Result<Lines<'a>, TextFault>
+        ensures begins_or_refuses { MatchResult result (λ lines. Begins file.now lines) (λ e. (Sized file.now → ⊥) × (e ≡ BadSize)) }
     {
-        Lines {
-            rest: file,
-            number: 1,
-            taken: 0,
+        match file {
+            [.., b'\n'] if file.len() <= 32_768 => Ok(Lines {
+                rest: file,
+                number: 1,
+                taken: 0,
+            }),
+            _ => Err(TextFault::BadSize),
         }
     }
 
@@ -42,9 +31,7 @@ impl<'a> Lines<'a> {
         let cut = first_piece(self.rest, b'\n');
         let line = cut.piece;
         let number = self.number;
-        let Some(rest) = cut.rest else {
-            return Err(LineFault::Missing { line: number });
-        };
+        let rest = cut.rest.ok_or(LineFault::Missing { line: number })?;
         let taken = self.taken;
         *self = Lines {
             rest,

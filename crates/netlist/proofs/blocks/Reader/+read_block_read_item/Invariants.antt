@@ -1,8 +1,8 @@
 use Rattle.std.proofs.Common.{◌+◌, ◌*◌, length}
 use Rattle.drawing.specs.Calls.{sheet}
-use Rattle.netlist.specs.Steps.{Inside}
+use Rattle.netlist.specs.Steps.{Inside, place}
 use Rattle.netlist.proofs.Going.{Sofar}
-use Rattle.netlist.proofs.blocks.+read_block_read_item.Given as goal
+use Rattle.netlist.proofs.blocks.Reader.+read_block_read_item.Given as goal
 
 abbrev pub decreases-read_block : goal.decreases-read_block
 decreases-read_block g l = 2 * l.levels + 1
@@ -12,8 +12,8 @@ decreases-read_item g l = 2 * l.levels
 
 abbrev pub invariant-read_block-items : goal.invariant-read_block-items
 invariant-read_block-items g l =
-    Inside (sheet l.drawing) l.levels
-    × Sofar g.C.Clock.time l.initial.lines (sheet l.initial.drawing) l.lines (sheet l.drawing)
+    Inside (sheet l.self.drawing) l.levels
+    × Sofar g.C.Clock.time (place l.initial.self) (place l.self)
 
 abbrev pub decreases-read_block-items : goal.decreases-read_block-items
-decreases-read_block-items g l = length l.lines.rest.now
+decreases-read_block-items g l = length l.self.lines.rest.now

@@ -1,117 +1,93 @@
 // The escaped form of a case. \\ is a backslash, \n byte 10, \xNN the byte with that hexadecimal number, and \{BYTE*COUNT} so many times the
 // byte with that decimal number; every other byte stands for itself.
+ghost use Rattle.std.specs.Prelude.{◌≡◌, ◌<◌, ◌≤◌, length, IfSome};
+
 use crate::trouble::Trouble;
 use std::alloc::Global;
 
-// What the next byte belongs to.
+// A byte, how many times it stands there, and the text that follows.
 #[derive(Clone, Copy)]
-enum Within {
-    Text,
-    // a backslash is read
-    Escape,
-    Hexadecimal,
-    LastDigit { high: u8 },
-    Byte { byte: u8 },
-    Count { byte: u8, count: u32 },
-}
-
-// What a byte of the escaped form gives, and what the next one belongs to.
-#[derive(Clone, Copy)]
-struct Taken {
-    next: Within,
+struct Run<'a> {
     byte: u8,
     count: u32,
+    rest: &'a [u8],
 }
 
-// The byte gives nothing yet.
-fn on(next: Within) -> Option<Taken> {
-    Some(Taken {
-        next,
-        byte: 0,
-        count: 0,
-    })
-}
-
-fn gives(byte: u8, count: u32) -> Option<Taken> {
-    Some(Taken {
-        next: Within::Text,
+fn once(byte: u8, rest: &[u8]) -> Run<'_>
+    ensures leaves_the_rest { result.rest.now ≡ rest.now }
+{
+    Run {
         byte,
-        count,
+        count: 1,
+        rest,
+    }
+}
+
+fn hexadecimal(digit: u8) -> Option<u8>
+    ensures below_16 { IfSome result (λ number. number < 16) }
+{
+    match digit {
+        b'0'..=b'9' => Some(digit - b'0'),
+        b'a'..=b'f' => Some(digit - b'a' + 10),
+        _ => None,
+    }
+}
+
+fn decimal(digits: &[u8]) -> Option<u32> {
+    digits.iter().try_fold(0u32, |number, digit| {
+        number
+            .checked_mul(10)?
+            .checked_add(char::from(*digit).to_digit(10)?)
     })
 }
 
-fn hexadecimal(b: u8) -> Option<u8> {
-    match b {
-        b'0'..=b'9' => Some(b - b'0'),
-        b'a'..=b'f' => Some(b - b'a' + 10),
-        _ => None,
-    }
+// The decimal number that stands before the byte `end`, and the text after that byte.
+fn number_before(text: &[u8], end: u8) -> Option<(u32, &[u8])>
+    ensures leaves_no_more { IfSome result (λ found. length found.1.now ≤ length text.now) }
+{
+    let count = text.iter().position(|b| *b == end)?;
+    Some((decimal(&text[..count])?, &text[count + 1..]))
 }
 
-fn decimal(b: u8) -> Option<u8> {
-    match b {
-        b'0'..=b'9' => Some(b - b'0'),
-        _ => None,
-    }
-}
-
-fn escaped(b: u8) -> Option<Taken> {
-    match b {
-        b'\\' => gives(b'\\', 1),
-        b'n' => gives(b'\n', 1),
-        b'x' => on(Within::Hexadecimal),
-        b'{' => on(Within::Byte { byte: 0 }),
-        _ => None,
-    }
-}
-
-fn repeated(byte: u8, b: u8) -> Option<Taken> {
-    if b == b'*' {
-        return on(Within::Count { byte, count: 0 });
-    }
-    let byte = byte.checked_mul(10)?.checked_add(decimal(b)?)?;
-    on(Within::Byte { byte })
-}
-
-fn counted(byte: u8, count: u32, b: u8) -> Option<Taken> {
-    if b == b'}' {
-        return gives(byte, count);
-    }
-    let count = count.checked_mul(10)?.checked_add(u32::from(decimal(b)?))?;
-    on(Within::Count { byte, count })
-}
-
-fn take(within: Within, b: u8) -> Option<Taken> {
-    match within {
-        Within::Text if b == b'\\' => on(Within::Escape),
-        Within::Text => gives(b, 1),
-        Within::Escape => escaped(b),
-        Within::Hexadecimal => on(Within::LastDigit {
-            high: hexadecimal(b)?,
-        }),
-        Within::LastDigit { high } => {
-            gives(high.checked_mul(16)?.checked_add(hexadecimal(b)?)?, 1)
+// What follows a backslash.
+fn escaped(text: &[u8]) -> Option<Run<'_>>
+    ensures leaves_no_more { IfSome result (λ run. length run.rest.now ≤ length text.now) }
+{
+    match text {
+        [b'\\', rest @ ..] => Some(once(b'\\', rest)),
+        [b'n', rest @ ..] => Some(once(b'\n', rest)),
+        [b'x', high, low, rest @ ..] => {
+            Some(once(16 * hexadecimal(*high)? + hexadecimal(*low)?, rest))
         }
-        Within::Byte { byte } => repeated(byte, b),
-        Within::Count { byte, count } => counted(byte, count, b),
+        [b'{', rest @ ..] => {
+            let (byte, rest) = number_before(rest, b'*')?;
+            let (count, rest) = number_before(rest, b'}')?;
+            let byte = u8::try_from(byte).ok()?;
+            Some(Run { byte, count, rest })
+        }
+        _ => None,
+    }
+}
+
+fn next_run(first: u8, rest: &[u8]) -> Option<Run<'_>>
+    ensures leaves_no_more { IfSome result (λ run. length run.rest.now ≤ length rest.now) }
+{
+    match first {
+        b'\\' => escaped(rest),
+        byte => Some(once(byte, rest)),
     }
 }
 
 // The bytes that an escaped text stands for.
 pub fn decoded(heap: Global, text: &[u8]) -> Result<Vec<u8>, Trouble> {
     let mut bytes = Vec::new(heap);
-    let mut within = Within::Text;
-    for b in text.iter() {
-        let Some(taken) = take(within, *b) else {
-            return Err(Trouble::Escape);
-        };
-        for _ in 0..taken.count {
-            bytes.push(taken.byte)?;
+    let mut left = text;
+    'runs: while let [first, rest @ ..] = left {
+        let run = next_run(*first, rest).ok_or(Trouble::Escape)?;
+        for _ in 0..run.count {
+            bytes.push(run.byte)?;
         }
-        within = taken.next;
+        left = run.rest;
     }
-    match within {
-        Within::Text => Ok(bytes),
-        _ => Err(Trouble::Escape),
-    }
+    Ok(bytes)
 }

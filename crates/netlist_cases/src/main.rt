@@ -5,7 +5,7 @@ mod escape;
 mod trouble;
 
 use crate::escape::decoded;
-use crate::trouble::{Trouble, complaint};
+use crate::trouble::Trouble;
 use clock::dense::Dense;
 use grammar::fault::{Layer, Verdict};
 use netlist::reader::{Netlist, read_board};
@@ -39,17 +39,12 @@ fn refused(rt: &HostRuntime, name: &str, verdict: Verdict) -> Result<(), Trouble
 }
 
 fn try_case(rt: &HostRuntime, case: &str) -> Result<(), Trouble> {
-    let Some((name, text)) = case.split_once(' ') else {
-        return Err(Trouble::Case);
-    };
+    let (name, text) = case.split_once(' ').ok_or(Trouble::Case)?;
     let heap = rt.alloc();
     let file = decoded(heap, text.as_bytes())?;
     match read_board(file.as_slice(), heap) {
         Ok(netlist) => accepted(rt, name, &netlist),
-        Err(fault) => match fault.verdict() {
-            Some(verdict) => refused(rt, name, verdict),
-            None => Err(Trouble::Memory),
-        },
+        Err(fault) => refused(rt, name, fault.verdict().ok_or(Trouble::Reader)?),
     }
 }
 
@@ -64,8 +59,6 @@ fn work(rt: &HostRuntime) -> Result<(), Trouble> {
 }
 
 fn main(rt: HostRuntime) -> anyhow::Result<()> {
-    match work(&rt) {
-        Ok(()) => Ok(()),
-        Err(trouble) => Err(complaint(trouble)),
-    }
+    work(&rt)?;
+    Ok(())
 }

@@ -8,6 +8,7 @@ use crate::pins::{Pin, Wire};
 use crate::plan::Plan;
 use coupling::rows::Row;
 
+// kept: each function asks for a `Small` pin, since `Pin` is public and promises no range
 impl Layout {
     pub(crate) fn of(plan: &Plan) -> Layout
         ensures counts_the_parts { result.parts ≡ vec_len plan.now.components }

@@ -29,18 +29,12 @@ pub fn refused(rt: &impl Abort, answer: Result<(), Fault>, fault: Fault, number:
 
 // The drawing is not finished, and is given back.
 pub fn unfinished(drawing: Drawing<u8>) -> Result<Drawing<u8>, Fail> {
-    match drawing.finish() {
-        Ok(_) => Err(Fail::new("finished")),
-        Err(back) => Ok(back),
-    }
+    drawing.finish().err().ok_or_else(|| Fail::new("finished"))
 }
 
 // The board of a drawing that is closed.
 pub fn finished(drawing: Drawing<u8>) -> Result<Board<u8>, Fail> {
-    match drawing.finish() {
-        Ok(board) => Ok(board),
-        Err(_) => Err(Fail::new("not finished")),
-    }
+    drawing.finish().map_err(|_| Fail::new("not finished"))
 }
 
 // A drawing whose board is open and has so many pins.

@@ -1,5 +1,5 @@
 -- Reading and wiring a network.
-use Rattle.std.proofs.Common.{◌≡◌, ℕ, ◌+◌, ◌-◌, ◌*◌, ◌<◌, ◌≤◌, List, get_or, take, drop, replicate, vec_items, sym, ap, ap₂, ◌∙◌, ⊎_elim, arith}
+use Rattle.std.proofs.Common.{◌≡◌, ℕ, ◌+◌, ◌-◌, ◌*◌, ◌<◌, ◌≤◌, List, get_or, take, drop, replicate, vec_items, sym, ap, ◌∙◌, ⊎_elim, arith}
 use Rattle.std.proofs.lemmas.List.{get_or_past, get_or-take, get_or-drop, get_or-replicate, length-replicate}
 use Rattle.std.proofs.lemmas.Bool.{cases_lt}
 use Rattle.coupling.specs.Rows.{row_at, set_of, nothing, UnionOf}
@@ -31,15 +31,15 @@ absent_reaches n i pins r h e =
     }
 
 -- what the eight rows of a source reach
-pub lent_reaches : (n : Network) (s t : Source) (pins first : ℕ) (all : List Row) (r : Row) → t ≡ s → first ≡ first_row t → all ≡ vec_items n.rows →
-    UnionOf (take (first + 8 - first) (drop first all)) pins r → Reaches (wired n) s pins r
-lent_reaches n s t pins first all r et ef ea h =
-    let start : first ≡ first_row s = ef ∙ ap first_row et in
-    let lent : (k : ℕ) → k < 8 → row_at (take (first + 8 - first) (drop first all)) k ≡ row_at (vec_items n.rows) (first_row s + k) =
-    λ k l. get_or-take (first + 8 - first) (drop first all) k nothing (omega arith) ∙ get_or-drop first all k nothing ∙ ap₂ (λ rows at. row_at rows (at + k)) ea start in
+pub lent_reaches : (n : Network) (s t : Source) (pins : ℕ) (lent : List Row) (r : Row) → t ≡ s →
+    lent ≡ take (first_row t + 8 - first_row t) (drop (first_row t) (vec_items n.rows)) → UnionOf lent pins r → Reaches (wired n) s pins r
+lent_reaches n s t pins lent r et el h =
+    let row : (k : ℕ) → k < 8 → row_at lent k ≡ row_at (vec_items n.rows) (first_row s + k) =
+    λ k l. ap (λ rows. row_at rows k) el ∙ get_or-take (first_row t + 8 - first_row t) (drop (first_row t) (vec_items n.rows)) k nothing (omega arith)
+    ∙ get_or-drop (first_row t) (vec_items n.rows) k nothing ∙ ap (λ x. row_at (vec_items n.rows) (first_row x + k)) et in
     record {
-      parts = λ j l. h.sets j (omega (arith, n.few_parts)) ∙ union_same _ _ pins (λ k q. ap (λ x. set_of x j) (lent k q));
-      outputs = h.board ∙ union_same _ _ pins (λ k q. ap board_of (lent k q));
+      parts = λ j l. h.sets j (omega (arith, n.few_parts)) ∙ union_same _ _ pins (λ k q. ap (λ x. set_of x j) (row k q));
+      outputs = h.board ∙ union_same _ _ pins (λ k q. ap board_of (row k q));
     }
 
 -- rows that reach nothing

@@ -1,5 +1,5 @@
 // Wiring a network by hand, and reading it.
-ghost use Rattle.std.specs.Prelude.{◌≡◌, ◌<◌, ◌≤◌, replicate, IfOk, MatchResult};
+ghost use Rattle.std.specs.Prelude.{◌≡◌, ◌+◌, ◌<◌, ◌≤◌, replicate, slice_range, vec_len, IfOk, MatchResult};
 ghost use Rattle.coupling.specs.declared.wires.BuildFault.TheVariants.{Memory};
 ghost use Rattle.coupling.specs.Rows.{nothing};
 ghost use Rattle.coupling.specs.Networks.{wired, Bare, Unbuildable, Wired, Unwirable, HasSource, HasTarget, Apart, added, target_fits};
@@ -70,16 +70,15 @@ fn apart(source: Source, target: Target) -> bool
 }
 
 // The row with one target more.
-fn with_target(row: Row, target: Target) -> Row
+fn with_target(mut row: Row, target: Target) -> Row
     requires in_range { target_fits target }
     ensures value { result ≡ added row target }
 {
-    let mut more = row;
     match target {
-        Target::Part { part, pin } => more.sets[part] |= 1 << pin,
-        Target::Board { pin } => more.board |= 1 << pin,
+        Target::Part { part, pin } => row.sets[part] |= 1 << pin,
+        Target::Board { pin } => row.board |= 1 << pin,
     }
-    more
+    row
 }
 
 impl Network {
@@ -120,6 +119,15 @@ impl Network {
         }
     }
 
+    // The rows of a source's pins 0 to 7.
+    fn rows_of(&self, source: Source) -> &[Row]
+        requires in_range { Rattle.coupling.specs.Networks.first_row source + 8 ≤ vec_len self.now.rows }
+        ensures are_its_rows { result.now ≡ slice_range self.now.rows.items (Rattle.coupling.specs.Networks.first_row source) (Rattle.coupling.specs.Networks.first_row source + 8) }
+    {
+        let first = first_row(source);
+        &self.rows[first..first + 8]
+    }
+
     // Adds a wire from a source's pin to a target. It refuses what is absent and a wire from a part to itself.
     pub fn wire(&mut self, source: Source, pin: u8, target: Target) -> Result<(), WireFault>
         ensures adds_the_wire_or_refuses { MatchResult result (λ _. Wired (wired self.old) (wired self.new) source pin target) (λ e. Unwirable (wired self.old) source pin target e × (self.new ≡ self.old)) }
@@ -157,7 +165,6 @@ impl Coupling for Network {
         {
             return Row::empty();
         }
-        let first = first_row(source);
-        union(&self.rows[first..first + 8], pins)
+        union(self.rows_of(source), pins)
     }
 }

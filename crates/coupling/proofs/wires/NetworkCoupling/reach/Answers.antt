@@ -16,4 +16,4 @@ pub returns-2 : goal.returns-2
 returns-2 c =
     let same : c.in_default.source ≡ c.args.source =
     elim c.in_default.branch [ in_default-via-in-Board-1 w ↦ w.source-is | in_default-via-in-Part+else-part-self w ↦ w.source-is ∙ sym w.in-Part.is ] in
-    record { is_the_union_of_the_rows = lent_reaches c.args.self.now c.args.source _ _ _ _ _ same c.first_row-first.ensures.value c.deref.ensures.value c.union.ensures.is_the_union }
+    record { is_the_union_of_the_rows = lent_reaches c.args.self.now c.args.source _ _ _ _ same c.rows_of.ensures.are_its_rows c.union.ensures.is_the_union }

@@ -73,9 +73,9 @@ module _ {P C : Type 0} (M : Model P C) where
       Made M lent (traced (own M here.places here.now) rest) (traced (own M places t) rest') a →
       drop M.wiring.parts places ≡ drop M.wiring.parts here.places →
       Sofar start list before (i + 1) (n + tells a) (record { places = places; now = t; answers = set here.answers i a; trace = trace })
-  after_call start list before i n here lent a places t rest rest' trace h in_List in-answers read is-rest long back made spare =
+  after_call start list before i n here lent a places t rest rest' trace h in_list in_answers read is_rest long back made spare =
       let m = length made.events in
-      let left_over : rest ≡ drop n before.trace = is-rest ∙ ap (drop n) h.events_written ∙ drop_at h.events (drop n before.trace) n (sym h.events_count) in
+      let left_over : rest ≡ drop n before.trace = is_rest ∙ ap (drop n) h.events_written ∙ drop_at h.events (drop n before.trace) n (sym h.events_count) in
       let size : length rest ≡ length before.trace - n = ap length left_over ∙ length-drop n before.trace in
       let fits = tells_fits lent rest rest' a made long in
       record {
@@ -84,7 +84,7 @@ module _ {P C : Type 0} (M : Model P C) where
         said_count = ap (λ x. x + 1) h.said_count ∙ sym (length_push h.said a);
         events_count = (λ j. h.events_count j + made.count j) ∙ sym (length-append h.events made.events);
         said_written =
-            ap (λ l. set l i a) (h.said_written ∙ ap (λ l. h.said ++ l) (drop_more before.answers i a in-answers))
+            ap (λ l. set l i a) (h.said_written ∙ ap (λ l. h.said ++ l) (drop_more before.answers i a in_answers))
             ∙ set_at h.said _ (drop (i + 1) before.answers) a i (sym h.said_count)
             ∙ sym (append_assoc h.said (a ∷ []) (drop (i + 1) before.answers));
         events_written =
@@ -98,7 +98,7 @@ module _ {P C : Type 0} (M : Model P C) where
             let free : length before.trace - (n + tells a) ≡ (length before.trace - n) - m = omega (arith, made.count) in
             let one = makes {calls = more} {answers = xs} {events = es} (left (own M places t) made.events) (subst (λ x. Makes M x (own M here.places here.now) lent a (left (own M places t) made.events)) size made.makes_it) (subst (λ x. Replays M x (own M places t) more xs es after) free r) in
             replays_cast
-            (sym (ap (λ l. l ++ more) (take_more list i lent in_List ∙ ap (λ x. take i list ++ x ∷ []) (sym read)) ∙ append_assoc (take i list) (lent ∷ []) more))
+            (sym (ap (λ l. l ++ more) (take_more list i lent in_list ∙ ap (λ x. take i list ++ x ∷ []) (sym read)) ∙ append_assoc (take i list) (lent ∷ []) more))
             (sym (append_assoc h.said (a ∷ []) xs)) (sym (append_assoc h.events made.events es))
             (h.goes_on (lent ∷ more) (a ∷ xs) (made.events ++ es) after one);
       }

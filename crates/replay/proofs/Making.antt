@@ -17,17 +17,9 @@ use Rattle.replay.specs.Replays.{answered, tells, left, MakesCall, Made, RunIn, 
 use Rattle.replay.proofs.Own.{asks_map}
 
 -- only a run tells events
-silent_done : (C : Type 0) (r : Result Unit Refusal) → tells {C = C} (answered (λ _. answer.Done) r) ≡ 0
-silent_done C (Ok x) = refl
-silent_done C (Err e) = refl
-
-silent_fired : {C : Type 0} (r : Result (Firing C) Refusal) → tells (answered answer.Fired r) ≡ 0
-silent_fired (Ok x) = refl
-silent_fired (Err e) = refl
-
-silent_earliest : {C : Type 0} (r : Result (Option C) Refusal) → tells (answered answer.Earliest r) ≡ 0
-silent_earliest (Ok x) = refl
-silent_earliest (Err e) = refl
+silent : {T C : Type 0} (f : T → Answer C) → ((x : T) → tells (f x) ≡ 0) → (r : Result T Refusal) → tells (answered f r) ≡ 0
+silent f none (Ok x) = none x
+silent f none (Err e) = refl
 
 silent_refused : {T C : Type 0} (f : T → Answer C) (n : ℕ) (r : Result T Refusal) → Refuses n r → tells (answered f r) ≡ 0
 silent_refused f n (Ok x) h = absurd h
@@ -50,7 +42,7 @@ module _ {P C : Type 0} (M : Model P C) (before : Memory P C) (trace : List (Eve
     makes_it =
         subst (λ x. MakesCall M (length trace) before (length before.places) x a (left after [])) (sym e)
         (r, is, asked 11 before after r h (λ no on. (inr (no, on), refl)));
-    count = ap tells is ∙ silent_done C r;
+    count = ap tells is ∙ silent {C = C} (λ _. answer.Done) (λ _. refl) r;
     written = refl;
   }
 
@@ -61,7 +53,7 @@ module _ {P C : Type 0} (M : Model P C) (before : Memory P C) (trace : List (Eve
     makes_it =
         subst (λ x. MakesCall M (length trace) before (length before.places) x a (left after [])) (sym e)
         (r, is, asked 11 before after r h (λ no on. (inr (no, on), refl)));
-    count = ap tells is ∙ silent_fired r;
+    count = ap tells is ∙ silent answer.Fired (λ _. refl) r;
     written = refl;
   }
 
@@ -71,7 +63,7 @@ module _ {P C : Type 0} (M : Model P C) (before : Memory P C) (trace : List (Eve
     events = [];
     makes_it =
         subst (λ x. MakesCall M (length trace) before (length before.places) x a (left before [])) (sym e) (r, is, put_in h);
-    count = ap tells is ∙ silent_earliest r;
+    count = ap tells is ∙ silent answer.Earliest (λ _. refl) r;
     written = refl;
   }
     where
@@ -111,7 +103,7 @@ module _ {P C : Type 0} (M : Model P C) (before : Memory P C) (trace : List (Eve
 pub run_in : {P C : Type 0} (M : Model P C) (horizon : C) (budget room n : ℕ) (before after : Memory P C) (trace part lent whole : List (Event C)) (r : Result Ran Refusal) →
     n ≡ min room (length trace) → lent ≡ take n trace → length part ≡ length lent → whole ≡ part ++ drop n trace →
     RunsTo M horizon budget (traced before lent) (traced after part) r → RunsIn M horizon budget room (traced before trace) (traced after whole) r
-run_in {P} {C} M horizon budget room n before after trace part lent whole r is is-lent long back h =
+run_in {P} {C} M horizon budget room n before after trace part lent whole r is is_lent long back h =
     (asks_map 11 B A B' A' r (λ x. x) (λ x. x) same (asks_map 12 B A B' A' r (λ x. x) (λ x. x) same (λ k. ((k.0, k.1, ran k.0 k.2), tt))) h).0
   where
     B : Traced P C
@@ -128,22 +120,22 @@ run_in {P} {C} M horizon budget room n before after trace part lent whole r is i
 
     same : A ≡ B → (A' ≡ B') × Unit {0}
     same e =
-        let t : part ≡ take n trace = ap (λ (x : Traced P C). x.trace) e ∙ is-lent in
+        let t : part ≡ take n trace = ap (λ (x : Traced P C). x.trace) e ∙ is_lent in
         let w : whole ≡ trace = back ∙ ap (λ l. l ++ drop n trace) t ∙ take-append-drop n trace in
         ((λ i. traced (e i).memory (w i)), tt)
 
     ran : (k : Ran) → Run M horizon budget B A k → RunIn M horizon budget room B' A' k
     ran k h =
         let m = length h.events in
-        let size : length lent ≡ n = ap length is-lent ∙ length-take n trace ∙ omega (arith, is) in
+        let size : length lent ≡ n = ap length is_lent ∙ length-take n trace ∙ omega (arith, is) in
         let sum = ap length h.written ∙ length-append h.events (drop m lent) in
-        let fits : m ≤ length (take n trace) = omega (arith, sum, ap length is-lent, length-drop m lent, long) in
+        let fits : m ≤ length (take n trace) = omega (arith, sum, ap length is_lent, length-drop m lent, long) in
         record {
           events = h.events;
           runs = subst (λ x. Runs M horizon budget x before k.steps h.events k.stop after) (size ∙ is) h.runs;
           count = h.count;
           written =
-              back ∙ ap (λ l. l ++ drop n trace) (h.written ∙ ap (λ l. h.events ++ drop m l) is-lent)
+              back ∙ ap (λ l. l ++ drop n trace) (h.written ∙ ap (λ l. h.events ++ drop m l) is_lent)
               ∙ append_assoc h.events (drop m (take n trace)) (drop n trace)
               ∙ ap (λ l. h.events ++ l) (sym (drop-append-le m (take n trace) (drop n trace) fits) ∙ ap (drop m) (take-append-drop n trace));
         }

@@ -14,9 +14,6 @@ use Rattle.replay.specs.declared.replay.Replayed.{Replayed}
 use Rattle.replay.specs.Replays.{own, opened, Loan, loan, Replays, Replay, ReplaysFrom, RestKept}
 use Rattle.replay.proofs.Once.{replays_only}
 
-ok_err : {T E : Type 0} (x : T) (e : E) → ◌≡◌ {A = Result T E} (Ok x) (Err e) → ⊥
-ok_err x e p = let z : ◌≡◌ {A = ℕ} 0 1 = cc in omega arith
-
 -- a write to all that follows n
 pub put_last : {X : Type 0} (n k : ℕ) (xs ys : List X) → k ≡ length xs - n → take n xs ++ (ys ++ drop k (drop n xs)) ≡ take n xs ++ ys
 put_last n k xs ys is = ap (λ l. take n xs ++ l) (ap (λ l. ys ++ l) (drop_all k (drop n xs) (omega (arith, is, length-drop n xs))) ∙ append-nil ys)
@@ -29,11 +26,11 @@ module _ {P C : Type 0} (M : Model P C) (starts : List P) where
       ReplaysFrom M starts list (loan before.places before.now answers trace) (loan after.places after.now answers trace) (Err e)
   replay_refused list before after answers trace r e is (inl h) =
       inl (h.0, subst (λ x. Refuses 11 x) is h.1, (λ i. loan (h.2 i).places (h.2 i).now answers trace))
-  replay_refused list before after answers trace r e is (inr h) = absurd (ok_err tt e (sym h.1.0 ∙ is))
+  replay_refused list before after answers trace r e is (inr h) = absurd (cc (h.1.0, is))
 
   pub refused_kept : (list : List (Lent C)) (before after : Loan P C) (e : Refusal) → ReplaysFrom M starts list before after (Err e) → after ≡ before
   refused_kept list before after e (inl h) = h.2
-  refused_kept list before after e (inr h) = absurd (ok_err h.1.0 e (sym h.1.1))
+  refused_kept list before after e (inr h) = absurd (cc h.1.1)
 
   abbrev zeroed : List (Place P C)
   zeroed = map (λ s. record { part = s; last = M.time.zero }) (take M.wiring.parts starts)
@@ -47,7 +44,7 @@ module _ {P C : Type 0} (M : Model P C) (starts : List P) where
 
   pub open_done : (before after : Memory P C) (r : Result Unit Refusal) → r ≡ Ok tt → Opens M starts before after r → Opened before after
   open_done before after (Ok x) is (inl h) = absurd h.1
-  open_done before after (Err e) is (inl h) = absurd (ok_err tt e (sym is))
+  open_done before after (Err e) is (inl h) = absurd cc
   open_done before after r is (inr h) =
       let p = M.wiring.parts in
       let e = h.1.1 in

@@ -1,13 +1,13 @@
 -- A call reads and changes the places of the parts alone.
-use Rattle.std.proofs.Common.{◌≡◌, ℕ, zero, suc, ◌-◌, ◌<◌, true, false, ◌⊎◌, List, [], ◌∷◌, map, get_or, take, drop, Some, None, Ok, Option, Result, sym, refl, ap, ◌∙◌, subst, inl, inr, le_of_suc-le-suc, not-suc-le-zero, arith}
-use Rattle.std.proofs.lemmas.List.{take-take, take-map, get_or-take, length-take, length-map}
+use Rattle.std.proofs.Common.{◌≡◌, ℕ, zero, suc, ◌-◌, ◌<◌, ◌⊎◌, List, [], ◌∷◌, take, drop, Some, None, Ok, Option, Result, sym, refl, ap, ◌∙◌, subst, inl, inr, le_of_suc-le-suc, not-suc-le-zero, arith}
+use Rattle.std.proofs.lemmas.List.{length-take, length-map}
 use Rattle.clock.specs.Time.{Time}
 use Rattle.part.specs.Kind.{Kind}
 use Rattle.part.specs.declared.part.Output.{Output}
-use Rattle.coupling.specs.Wiring.{reached, reached_board}
+use Rattle.coupling.specs.Wiring.{reached}
 use Rattle.coupling.specs.declared.coupling.Source.{Source}
 use Rattle.coupling.specs.declared.coupling.Source.TheVariants as source
-use Rattle.session.specs.Machine.{Model, Memory, memory, due, dues, Imminent, NoneDue, given, delivered, deliver, changed_at, output_of, event_of, fired}
+use Rattle.session.specs.Machine.{Model, Memory, memory, due, dues, Imminent, NoneDue, given, delivered, deliver, changed_at, output_of, fired}
 use Rattle.session.specs.Calls as calls
 use Rattle.session.specs.Calls.{Asks, Few, DueBefore, Puts, Steps, Ready, Halts, Runs, halts, silent, event, told, after_firing}
 use Rattle.session.specs.declared.places.Place.{Place}
@@ -15,7 +15,7 @@ use Rattle.session.specs.declared.places.Event.{Event}
 use Rattle.session.specs.declared.answers.Refusal.{Refusal}
 use Rattle.session.specs.declared.answers.Firing.{Firing}
 use Rattle.session.specs.declared.answers.Stop.{Stop}
-use Rattle.session.specs.declared.answers.Stop.TheVariants as stop
+use Rattle.session.proofs.Decisions.{dues_own, output_own, event_own, ready_same, halts_same}
 use Rattle.session.proofs.Imminence.{due_inside}
 use Rattle.session.proofs.Running.{ready_inside}
 use Rattle.replay.specs.Replays.{own}
@@ -59,19 +59,6 @@ module _ {P C : Type 0} (M : Model P C) where
   abbrev pub spare : Memory P C → List (Place P C)
   spare before = drop M.wiring.parts before.places
 
-  pub dues_own : (xs : List (Place P C)) → dues M xs ≡ dues M (take M.wiring.parts xs)
-  dues_own xs = ap (map (due M.time M.kind)) (sym (take-take M.wiring.parts M.wiring.parts xs (omega arith)))
-
-  output_own : (xs : List (Place P C)) (i : ℕ) → i < M.wiring.parts → output_of M xs i ≡ output_of M (take M.wiring.parts xs) i
-  output_own xs i h =
-      let f = λ (p : Place P C). M.kind.output p.part in
-      let o : Output = record { pins = 0; value = 0 } in
-      sym (get_or-take M.wiring.parts (map f xs) i o h) ∙ ap (λ l. get_or l i o) (take-map f M.wiring.parts xs)
-
-  pub event_own : (xs : List (Place P C)) (m : C) (i : ℕ) → i < M.wiring.parts → event_of M xs m i ≡ event_of M (take M.wiring.parts xs) m i
-  event_own xs m i h =
-      ap (λ (o : Output). record { moment = m; part = i; pins = o.pins; value = o.value; board = reached_board M.wiring (source.Part i) o.pins }) (output_own xs i h)
-
   pub deliver_own : (m : C) (s : Source) (pins v : ℕ) (xs : List (Place P C)) → take M.wiring.parts (deliver M m s pins v xs) ≡ deliver M m s pins v (take M.wiring.parts xs)
   deliver_own m s pins v xs = take_delivered M.time M.kind m v M.wiring.parts (reached M.wiring s pins) xs
 
@@ -84,7 +71,7 @@ module _ {P C : Type 0} (M : Model P C) where
       let o = output_of M xs i in
       deliver_own m (source.Part i) o.pins o.value (changed_at i f xs)
       ∙ ap (deliver M m (source.Part i) o.pins o.value) (take_changed M.wiring.parts i f xs)
-      ∙ ap (λ (o : Output). deliver M m (source.Part i) o.pins o.value (changed_at i f (take M.wiring.parts xs))) (output_own xs i h)
+      ∙ ap (λ (o : Output). deliver M m (source.Part i) o.pins o.value (changed_at i f (take M.wiring.parts xs))) (output_own M xs i h)
 
   fired_spare : (xs : List (Place P C)) (m : C) (i : ℕ) → i < M.wiring.parts → drop M.wiring.parts (fired M xs m i) ≡ drop M.wiring.parts xs
   fired_spare xs m i h =
@@ -123,7 +110,7 @@ module _ {P C : Type 0} (M : Model P C) where
       (asks_map 12 before after B A r (λ x. x) (λ x. x) s
       (asks_map 13 before after B A r (λ x. x) (λ x. x) s
       (asks_map 14 before after B A r (λ x. x) (λ x. x) s
-      (asks_map 15 before after B A r (subst late (dues_own xs)) (subst late (sym (dues_own xs))) s
+      (asks_map 15 before after B A r (subst late (dues_own M xs)) (subst late (sym (dues_own M xs))) s
       (λ k. (
         (k.0, ap Own k.1 ∙ ap (λ l. memory l m) (deliver_own m source.Board pins v xs)),
         ap spare k.1 ∙ deliver_spare m source.Board pins v xs,
@@ -136,53 +123,34 @@ module _ {P C : Type 0} (M : Model P C) where
       let B = Own before in
       let A = Own after in
       asks_map 11 before after B A r (few_to xs) (few_from xs) s
-      (asks_map 16 before after B A r (subst NoneDue (dues_own xs)) (subst NoneDue (sym (dues_own xs))) s
+      (asks_map 16 before after B A r (subst NoneDue (dues_own M xs)) (subst NoneDue (sym (dues_own M xs))) s
       (λ k.
       let (m, i, imm, on) = k in
       let inside = imminent_inside xs m i imm in
       let on' =
       asks_map 17 before after B A r (λ x. x) (λ x. x) s
       (λ l. (
-        (l.0 ∙ ap (λ e. Ok (told e)) (event_own xs m i inside), ap Own l.1 ∙ firing_own before m i inside),
+        (l.0 ∙ ap (λ e. Ok (told e)) (event_own M xs m i inside), ap Own l.1 ∙ firing_own before m i inside),
         ap spare l.1 ∙ fired_spare xs m i inside,
       )) on in
-      ((m, i, subst (λ ds. Imminent M.time ds m i) (dues_own xs) imm, on'.0), on'.1))) h
+      ((m, i, subst (λ ds. Imminent M.time ds m i) (dues_own M xs) imm, on'.0), on'.1))) h
 
   pub next_own : (xs : List (Place P C)) (r : Result (Option C) Refusal) → calls.Next M xs r → calls.Next M (take M.wiring.parts xs) r
   next_own xs r h =
-      (asks_map {Z = Unit {0}} 11 (tt {0}) (tt {0}) (tt {0}) (tt {0}) r (few_to xs) (few_from xs) (λ e. (e, tt)) (λ k. (subst Rule (dues_own xs) k, tt)) h).0
+      (asks_map {Z = Unit {0}} 11 (tt {0}) (tt {0}) (tt {0}) (tt {0}) r (few_to xs) (few_from xs) (λ e. (e, tt)) (λ k. (subst Rule (dues_own M xs) k, tt)) h).0
     where
       Rule : List (Option C) → Type 0
       Rule ds = (NoneDue ds × (r ≡ Ok None)) ⊎ ((m : C) × (i : ℕ) × Imminent M.time ds m i × (r ≡ Ok (Some m)))
 
   module _ (horizon : C) where
-    ready_own : (budget : ℕ) (xs : List (Place P C)) (m : C) (i : ℕ) → Ready M horizon budget xs m i → Ready M horizon budget (take M.wiring.parts xs) m i
-    ready_own budget xs m i h = record {
-      some_budget = h.some_budget;
-      imminent = subst (λ ds. Imminent M.time ds m i) (dues_own xs) h.imminent;
-      by_horizon = h.by_horizon;
-      by_ceiling = h.by_ceiling;
-    }
-
-    halts_own : (budget room : ℕ) (xs : List (Place P C)) (why : Stop) → Halts M horizon budget room xs why → Halts M horizon budget room (take M.wiring.parts xs) why
-    halts_own budget room xs stop.Budget h = h
-    halts_own budget room xs stop.NothingDue h = (h.0, subst NoneDue (dues_own xs) h.1)
-    halts_own budget room xs stop.Horizon h =
-        (h.0, subst (λ ds. (m : C) × (i : ℕ) × Imminent M.time ds m i × (M.time.leq m horizon ≡ false)) (dues_own xs) h.1)
-    halts_own budget room xs stop.Ceiling h =
-        (h.0, subst (λ ds. (m : C) × (i : ℕ) × Imminent M.time ds m i × (M.time.leq m horizon ≡ true) × (M.time.within m ≡ false)) (dues_own xs) h.1)
-    halts_own budget room xs stop.TraceFull h =
-        let (m, i, ready, some, full) = h in
-        (m, i, ready_own budget xs m i ready, subst (λ e. 0 < e.pins) (event_own xs m i (ready_inside M horizon budget xs m i ready)) some, full)
-
     pub runs_own : {budget room steps : ℕ} {events : List (Event C)} {why : Stop} {before after : Memory P C} →
         Runs M horizon budget room before steps events why after → Runs M horizon budget room (Own before) steps events why (Own after) × Kept before after
-    runs_own {budget} {room} {before = before} (halts {why = w} h) = (halts (halts_own budget room before.places w h), refl)
+    runs_own {budget} {room} {before = before} (halts {why = w} h) = (halts (halts_same M horizon before.places (take M.wiring.parts before.places) (dues_own M before.places) (event_own M before.places) budget room w h), refl)
     runs_own {budget} {room} {before = before} {after} (silent {steps = n} {events = es} {why = w} m i ready none r) =
         let xs = before.places in
         let inside = ready_inside M horizon budget xs m i ready in
         let rest = runs_own r in (
-          silent m i (ready_own budget xs m i ready) (subst (λ e. e.pins ≡ 0) (event_own xs m i inside) none)
+          silent m i (ready_same M horizon xs (take M.wiring.parts xs) (dues_own M xs) (event_own M xs) budget m i ready) (subst (λ e. e.pins ≡ 0) (event_own M xs m i inside) none)
               (subst (λ x. Runs M horizon (budget - 1) room x n es w (Own after)) (firing_own before m i inside) rest.0),
           rest.1 ∙ fired_spare xs m i inside,
         )
@@ -190,8 +158,8 @@ module _ {P C : Type 0} (M : Model P C) where
         let xs = before.places in
         let inside = ready_inside M horizon budget xs m i ready in
         let rest = runs_own r in (
-          subst (λ e. Runs M horizon budget room (Own before) (suc n) (e ∷ es) w (Own after)) (sym (event_own xs m i inside))
-              (event m i (ready_own budget xs m i ready) (subst (λ e. 0 < e.pins) (event_own xs m i inside) some) free
+          subst (λ e. Runs M horizon budget room (Own before) (suc n) (e ∷ es) w (Own after)) (sym (event_own M xs m i inside))
+              (event m i (ready_same M horizon xs (take M.wiring.parts xs) (dues_own M xs) (event_own M xs) budget m i ready) (subst (λ e. 0 < e.pins) (event_own M xs m i inside) some) free
               (subst (λ x. Runs M horizon (budget - 1) (room - 1) x n es w (Own after)) (firing_own before m i inside) rest.0)),
           rest.1 ∙ fired_spare xs m i inside,
         )

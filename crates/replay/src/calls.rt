@@ -1,7 +1,6 @@
 // The calls of a list, and what each answers.
 ghost use Rattle.std.specs.Prelude.{◌≡◌};
 ghost use Rattle.replay.specs.Replays.{answered, tells};
-ghost use Rattle.replay.specs.declared.calls.Answer.TheVariants as answer;
 
 use session::answers::{Firing, Ran, Refusal};
 
@@ -53,38 +52,13 @@ impl<C> Answer<C> {
     }
 }
 
-pub(crate) fn done<C>(outcome: Result<(), Refusal>) -> Answer<C>
-    ensures is_the_answer { result ≡ answered (λ _. answer.Done) outcome }
+// The answer of a call that may be refused.
+pub(crate) fn answer_of<C>(outcome: Result<Answer<C>, Refusal>) -> Answer<C>
+    ensures is_the_answer { result ≡ answered (λ answer. answer) outcome }
 {
+    // kept: `unwrap_or_else(Answer::Refused)` gets no proof, since the type `Refusal` does not name `C`
     match outcome {
-        Ok(()) => Answer::Done,
-        Err(refusal) => Answer::Refused(refusal),
-    }
-}
-
-pub(crate) fn earliest<C>(outcome: Result<Option<C>, Refusal>) -> Answer<C>
-    ensures is_the_answer { result ≡ answered answer.Earliest outcome }
-{
-    match outcome {
-        Ok(moment) => Answer::Earliest(moment),
-        Err(refusal) => Answer::Refused(refusal),
-    }
-}
-
-pub(crate) fn fired<C>(outcome: Result<Firing<C>, Refusal>) -> Answer<C>
-    ensures is_the_answer { result ≡ answered answer.Fired outcome }
-{
-    match outcome {
-        Ok(firing) => Answer::Fired(firing),
-        Err(refusal) => Answer::Refused(refusal),
-    }
-}
-
-pub(crate) fn ran<C>(outcome: Result<Ran, Refusal>) -> Answer<C>
-    ensures is_the_answer { result ≡ answered answer.Ran outcome }
-{
-    match outcome {
-        Ok(ran) => Answer::Ran(ran),
+        Ok(answer) => answer,
         Err(refusal) => Answer::Refused(refusal),
     }
 }

@@ -1,10 +1,10 @@
 // Calls made one after another, and what they leave.
-ghost use Rattle.std.specs.Prelude.{◌≡◌, ◌<◌, ◌≤◌, length, drop, slice_set};
+ghost use Rattle.std.specs.Prelude.{◌≡◌, ◌<◌, ◌≤◌, length, drop};
 ghost use Rattle.session.specs.Machine.{model, memory};
 ghost use Rattle.session.specs.Calls.{traced, Kept, OnlyOutcome};
-ghost use Rattle.replay.specs.Replays.{Made, OneOutcome, Replay, ReplaysFrom, RestKept, RunsIn, loan, own};
+ghost use Rattle.replay.specs.Replays.{Made, answered, OneOutcome, Replay, ReplaysFrom, RestKept, RunsIn, loan, own};
 
-use crate::calls::{Answer, Call, Lent, done, earliest, fired, ran};
+use crate::calls::{Answer, Call, Lent, answer_of};
 use clock::clock::Clock;
 use coupling::coupling::Coupling;
 use part::part::Part;
@@ -32,32 +32,39 @@ fn run_within<P: Part<C>, C: Clock, K: Coupling>(
     ensures runs_in_the_room { RunsIn (model C.Clock.time P.Part.kind (K.Coupling.wiring coupling.now)) horizon budget room (traced (memory places.old session.old.now) trace.old) (traced (memory places.new session.new.now) trace.new) result }
 {
     let records = room.min(trace.len());
-    session.run(coupling, places, horizon, budget, &mut trace[0..records])
+    session.run(coupling, places, horizon, budget, &mut trace[..records])
 }
 
 // Makes a call on all the places given.
+// kept: no struct holds session and places together, since each call is lent places of its own
 fn make<P: Part<C>, C: Clock, K: Coupling>(
     coupling: &K,
     session: &mut Session<C>,
     places: &mut [Place<P, C>],
     call: Call<C>,
     trace: &mut [Event<C>],
-) -> Answer<C>
-    ensures makes_the_call { Made (model C.Clock.time P.Part.kind (K.Coupling.wiring coupling.now)) (record { call = call; places = length places.old }) (traced (memory places.old session.old.now) trace.old) (traced (memory places.new session.new.now) trace.new) result }
+) -> Result<Answer<C>, Refusal>
+    ensures makes_the_call { Made (model C.Clock.time P.Part.kind (K.Coupling.wiring coupling.now)) (record { call = call; places = length places.old }) (traced (memory places.old session.old.now) trace.old) (traced (memory places.new session.new.now) trace.new) (answered (λ answer. answer) result) }
 {
     match call {
         Call::Put {
             moment,
             pins,
             value,
-        } => done(session.put(coupling, places, moment, pins, value)),
-        Call::Step => fired(session.step(coupling, places)),
-        Call::Next => earliest(next(coupling, places)),
+        } => {
+            session.put(coupling, places, moment, pins, value)?;
+            Ok(Answer::Done)
+        }
+        Call::Step => Ok(Answer::Fired(session.step(coupling, places)?)),
+        Call::Next => Ok(Answer::Earliest(next(coupling, places)?)),
         Call::Run {
             horizon,
             budget,
             room,
-        } => ran(run_within(coupling, session, places, horizon, budget, room, trace)),
+        } => {
+            let ran = run_within(coupling, session, places, horizon, budget, room, trace)?;
+            Ok(Answer::Ran(ran))
+        }
     }
 }
 
@@ -74,15 +81,7 @@ fn lend<P: Part<C>, C: Clock, K: Coupling>(
     ensures leaves_spare_places { drop (K.Coupling.wiring coupling.now).parts places.new ≡ drop (K.Coupling.wiring coupling.now).parts places.old }
 {
     let count = lent.places.min(places.len());
-    make(coupling, session, &mut places[0..count], lent.call, trace)
-}
-
-// Writes an answer to its record.
-fn store<C: Clock>(answers: &mut [Answer<C>], i: usize, answer: Answer<C>)
-    requires in_range { i < length answers.old }
-    ensures writes_the_record { answers.new ≡ slice_set answers.old i answer }
-{
-    answers[i] = answer;
+    answer_of(make(coupling, session, &mut places[..count], lent.call, trace))
 }
 
 // Makes the calls on an opened session.
@@ -99,11 +98,10 @@ fn make_all<P: Part<C>, C: Clock, K: Coupling>(
 {
     let count = calls.len().min(answers.len());
     let mut events: usize = 0;
-    'each: for i in 0..count {
-        let lent = calls[i];
-        let answer = lend(coupling, session, places, lent, &mut trace[events..]);
-        store(answers, i, answer);
+    'each: for (i, lent) in calls[..count].iter().enumerate() {
+        let answer = lend(coupling, session, places, *lent, &mut trace[events..]);
         events += answer.events();
+        answers[i] = answer;
     }
     Replayed {
         calls: count,
@@ -128,8 +126,6 @@ pub fn replay<P: Part<C>, C: Clock, K: Coupling>(
     ensures has_one_outcome { OnlyOutcome (ReplaysFrom (model C.Clock.time P.Part.kind (K.Coupling.wiring coupling.now)) starts.now calls.now (loan places.old session.old.now answers.old trace.old)) (loan places.new session.new.now answers.new trace.new) result }
     ensures machine_has_one_outcome { OneOutcome (model C.Clock.time P.Part.kind (K.Coupling.wiring coupling.now)) }
 {
-    match session.open(coupling, places, starts) {
-        Ok(()) => Ok(make_all(coupling, session, places, calls, answers, trace)),
-        Err(refusal) => Err(refusal),
-    }
+    session.open(coupling, places, starts)?;
+    Ok(make_all(coupling, session, places, calls, answers, trace))
 }

@@ -1,5 +1,4 @@
-use Rattle.std.proofs.Common.{◌++◌, take, drop, ap}
-use native.Mathlib.Nat.{sub-zero}
+use Rattle.std.proofs.Common.{refl}
 use Rattle.session.specs.Machine.{model, memory}
 use Rattle.replay.proofs.Making.{run_in}
 use Rattle.replay.proofs.replay.run_within.Goals as goal
@@ -8,9 +7,8 @@ pub returns : goal.returns
 returns g c =
     let M = model g.C.Clock.time g.P.Part.kind (g.K.Coupling.wiring c.args.coupling.now) in
     let trace = c.args.trace.now in
-    let n = c.min-records.result in
     record {
       runs_in_the_room =
-          run_in M c.args.horizon c.args.budget c.args.room n (memory c.args.places.now c.args.session.now.now) (memory c.run.new.places c.run.new.self.now)
-          trace c.run.new.trace _ _ c.run.result c.min-records.ensures (ap (λ k. take k trace) (sub-zero n)) c.run.auto.trace (ap (λ k. c.run.new.trace ++ drop k trace) (sub-zero n)) c.run.ensures.repeats_step;
+          run_in M c.args.horizon c.args.budget c.args.room c.min-records.result (memory c.args.places.now c.args.session.now.now) (memory c.run.new.places c.run.new.self.now)
+          trace c.run.new.trace _ _ c.run.result c.min-records.ensures refl c.run.auto.trace refl c.run.ensures.repeats_step;
     }

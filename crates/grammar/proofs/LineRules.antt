@@ -14,17 +14,17 @@ use Rattle.grammar.specs.Fields.{IsName, Numeral, kind_word}
 use Rattle.grammar.specs.Pieces.{left}
 use Rattle.grammar.specs.Rules.{first, block_forms, Form, a_number, Formed, numbers_of, Says, BlockLine, PartLine, KindSays}
 use Rattle.grammar.specs.Statements.{letter_B, letter_P}
-use Rattle.grammar.specs.Taking.{Takes, Next}
+use Rattle.grammar.specs.Taking.{Begun, Takes, Next}
 use Rattle.grammar.specs.Verdicts.{line_verdict}
 
 -- the name of a block is read, and then its numbers
-pub block_named : (n : ℕ) (all : List (List ℕ)) (w : List ℕ) (before after : Fields) (name : Name) (r : Result Statement Verdict) → length all ≡ 4 → all ≡ w ∷ left 32 before.words.rest → before.line ≡ n →
+pub block_named : (n : ℕ) (all : List (List ℕ)) (before after : Fields) (name : Name) (r : Result Statement Verdict) → length all ≡ 4 → Begun all n before →
     Next IsName before after (Ok name) → Formed (a_number 0 8 ∷ a_number 0 8 ∷ []) (left 32 after.words.rest) 3 after.line r (Says all r) → BlockLine all n r
-block_named n all w before after name r four e line h goes =
-    let cut : all ≡ w ∷ h.text ∷ left 32 after.words.rest = e ∙ ap (λ t. w ∷ t) h.takes.cut in
+block_named n all before after name r four b h goes =
+    let cut : all ≡ first all ∷ h.text ∷ left 32 after.words.rest = b.cut ∙ ap (λ t. first all ∷ t) h.takes.cut in
     let numbers : Formed (a_number 0 8 ∷ a_number 0 8 ∷ []) (drop 2 all) 3 n r (Says all r) =
-        subst (λ m. Formed (a_number 0 8 ∷ a_number 0 8 ∷ []) (drop 2 all) 3 m r (Says all r)) (h.takes.line ∙ line)
-        (subst (λ fs. Formed (a_number 0 8 ∷ a_number 0 8 ∷ []) fs 3 after.line r (Says all r)) (ap (drop 2) (sym cut)) goes) in
+    subst (λ m. Formed (a_number 0 8 ∷ a_number 0 8 ∷ []) (drop 2 all) 3 m r (Says all r)) (h.takes.line ∙ b.line)
+    (subst (λ fs. Formed (a_number 0 8 ∷ a_number 0 8 ∷ []) fs 3 after.line r (Says all r)) (ap (drop 2) (sym cut)) goes) in
     inr ((λ bad. bad four), subst (λ fs. Formed block_forms fs 2 n r (Says all r)) (ap (drop 1) (sym cut)) (inr ((λ none. none (name, h.reads)), subst (λ fs. Formed (a_number 0 8 ∷ a_number 0 8 ∷ []) fs 3 n r (Says all r)) (ap (drop 2) cut) numbers)))
 
 -- a number is read, or is none
@@ -42,11 +42,11 @@ module _ {T : Type 0} (low high : ℕ) (before after : Fields) (forms : List For
       subst (λ fs. Formed (a_number low high ∷ forms) fs k before.line r on) (sym h.takes.cut) (inl ((λ m. h.reads.0 m.0 m.1), v ∙ ap (λ x. Err (line_verdict x)) place))
 
 -- a block whose name and numbers are read
-pub block_said : (all : List (List ℕ)) (f0 f1 f2 f3 : Fields) (name : Name) (ins outs : ℕ) → length all ≡ 4 → all ≡ first all ∷ left 32 f0.words.rest → first all ≡ letter_B →
+pub block_said : (n : ℕ) (all : List (List ℕ)) (f0 f1 f2 f3 : Fields) (name : Name) (ins outs : ℕ) → length all ≡ 4 → Begun all n f0 → first all ≡ letter_B →
     Next IsName f0 f1 (Ok name) → Next (Numeral 0 8) f1 f2 (Ok ins) → Next (Numeral 0 8) f2 f3 (Ok outs) → Says all (Ok (Open name ins outs))
-block_said all f0 f1 f2 f3 name ins outs four e letter a b c =
-    let last : left 32 f3.words.rest ≡ [] = nil_from_length (left 32 f3.words.rest) (omega (arith, ap length e, ap length a.takes.cut, ap length b.takes.cut, ap length c.takes.cut)) in
-    let here = e ∙ ap (λ t. first all ∷ t) (a.takes.cut ∙ ap (λ t. a.text ∷ t) (b.takes.cut ∙ ap (λ t. b.text ∷ t) (c.takes.cut ∙ ap (λ t. c.text ∷ t) last))) in
+block_said n all f0 f1 f2 f3 name ins outs four begun letter a b c =
+    let last : left 32 f3.words.rest ≡ [] = nil_from_length (left 32 f3.words.rest) (omega (arith, ap length begun.cut, ap length a.takes.cut, ap length b.takes.cut, ap length c.takes.cut)) in
+    let here = begun.cut ∙ ap (λ t. first all ∷ t) (a.takes.cut ∙ ap (λ t. a.text ∷ t) (b.takes.cut ∙ ap (λ t. b.text ∷ t) (c.takes.cut ∙ ap (λ t. c.text ∷ t) last))) in
     (Open name ins outs, (b.reads.at_most, c.reads.at_most, a.reads.spelled), (λ i. sym letter i ∷ a.reads.written i ∷ b.reads.written i ∷ c.reads.written i ∷ []) ∙ sym here, refl)
 
 -- fields of the same forms, where the answer is made from theirs
@@ -59,13 +59,13 @@ formed_maps (form ∷ forms) (f ∷ fs) k n r q on off errs goes (inr h) = inr (
 
 -- the kind word and the name of a part are read, and then its numbers
 pub part_goes : (n : ℕ) (all : List (List ℕ)) (f g : List ℕ) (f0 f1 f2 : Fields) (name : Name) (k : KindWord) (r : Result PartKind Verdict) (q : Result Statement Verdict) →
-    all ≡ first all ∷ left 32 f0.words.rest → f0.line ≡ n → first all ≡ letter_P → Takes f0 f f1 → Takes f1 g f2 → kind_word k ≡ g → length all ≡ 3 + length (numbers_of k) → IsName name f →
+    Begun all n f0 → first all ≡ letter_P → Takes f0 f f1 → Takes f1 g f2 → kind_word k ≡ g → length all ≡ 3 + length (numbers_of k) → IsName name f →
     ((v : Verdict) → r ≡ Err v → q ≡ Err v) → ((x : PartKind) → r ≡ Ok x → q ≡ Ok (Part name x)) → KindSays k (left 32 f2.words.rest) f2.line r → PartLine all n q
-part_goes n all f g f0 f1 f2 name k r q e line letter one two third many named errs oks h =
+part_goes n all f g f0 f1 f2 name k r q begun letter one two third many named errs oks h =
     let w = first all in
     let rest = left 32 f2.words.rest in
-    let here : all ≡ w ∷ f ∷ g ∷ rest = e ∙ ap (λ t. w ∷ t) (one.cut ∙ ap (λ t. f ∷ t) two.cut) in
-    let says : KindSays k rest n r = subst (λ m. KindSays k rest m r) (two.line ∙ one.line ∙ line) h in
+    let here : all ≡ w ∷ f ∷ g ∷ rest = begun.cut ∙ ap (λ t. w ∷ t) (one.cut ∙ ap (λ t. f ∷ t) two.cut) in
+    let says : KindSays k rest n r = subst (λ m. KindSays k rest m r) (two.line ∙ one.line ∙ begun.line) h in
     let long : length (w ∷ f ∷ g ∷ rest) ≡ 3 + length (numbers_of k) = ap length (sym here) ∙ many in
     subst (λ fs. PartLine fs n q) (sym here)
     (inr (

@@ -27,9 +27,6 @@ Free sep text = Each (λ b. b ≡ sep → ⊥) text
 pub free_from_lacks : (sep : ℕ) (text : List ℕ) → Lacks sep text (length text) → Free sep text
 free_from_lacks sep text none = each_from (λ b. b ≡ sep → ⊥) text 0 none
 
-pub lacks_from_free : (sep : ℕ) (text : List ℕ) → Free sep text → Lacks sep text (length text)
-lacks_from_free sep text free k l = each_at (λ b. b ≡ sep → ⊥) text k 0 l free
-
 -- what stands before a separator, and has none, is the first piece
 pub split_line : (sep : ℕ) (line rest : List ℕ) → Free sep line → split sep (line ++ sep ∷ rest) ≡ line ∷ split sep rest
 split_line sep [] rest free = split_here sep sep rest refl

@@ -1,14 +1,13 @@
 -- How a text is split.
-use Rattle.std.proofs.Common.{◌≡◌, ℕ, zero, suc, ◌+◌, ◌<◌, ◌≤◌, eqb, List, [], ◌∷◌, length, get_or, take, drop, Some, None, Option, sym, refl, ap, ◌∙◌, ⊎_elim, add-one, arith, Bor}
+use Rattle.std.proofs.Common.{◌≡◌, ℕ, zero, suc, ◌+◌, ◌<◌, ◌≤◌, eqb, List, [], ◌∷◌, length, get_or, take, drop, Some, None, sym, refl, ap, ◌∙◌, ⊎_elim, add-one, arith, Bor}
 use Rattle.std.proofs.lemmas.Bool.{cases_lt, both_ways, lt-ltb, eq-eqb, eqb-true, ne_eqb, cond-true, cond-false}
 use Rattle.std.proofs.lemmas.List.Quantifiers.{position-Some}
 use Rattle.std.specs.Prelude.{Bool, not, ◌==◌}
 use Rattle.std.specs.List.{position, prefix_len}
 use Rattle.std.proofs.lemmas.List.Sums.{prefix_len_passes}
 use Rattle.std.proofs.lemmas.Option.{none-some}
-use Rattle.grammar.specs.Lines.{Words}
 use Rattle.std.proofs.lemmas.List.{length-take-le, length-drop}
-use Rattle.grammar.specs.Pieces.{onto, split, left, more, Parts}
+use Rattle.grammar.specs.Pieces.{onto, split, Parts}
 
 abbrev pub Lacks : ℕ → List ℕ → ℕ → Type 0
 Lacks separator text n = (k : ℕ) → k < n → get_or text k 0 ≡ separator → ⊥
@@ -32,13 +31,6 @@ split_at separator (b ∷ text) (suc i) l none here =
 pub split_none : (separator : ℕ) (text : List ℕ) → Lacks separator text (length text) → split separator text ≡ text ∷ []
 split_none separator [] none = refl
 split_none separator (b ∷ text) none = split_onto separator b text (none zero (omega arith)) ∙ ap (onto b) (split_none separator text (λ k h. none (suc k) (omega arith)))
-
--- while fields are counted: what is at hand and what is left are the fields after those that are passed
-pub record Sofar (line piece : List ℕ) (rest : Option (Bor (List ℕ))) (count : ℕ) : Type 0 where
-  pub counted : length (split 32 line) + 1 ≡ count + length (piece ∷ left 32 rest)
-  pub to_here : Words (split 32 line) → Words (piece ∷ left 32 rest)
-  pub from_here : Words (piece ∷ left 32 rest) → Words (split 32 line)
-  pub bounded : count + more rest ≤ 81
 
 -- the first piece is what stands before the first separator
 pub cut_at : (separator : ℕ) (text : List ℕ) (i : ℕ) (piece : List ℕ) (rest : Bor (List ℕ)) → Some i ≡ position (λ b. b == separator) text →

@@ -39,17 +39,9 @@ pub record Short (text : List ℕ) : Type 0 where
 pub short_word : (text : List ℕ) → Short text → Word text
 short_word text h = record { some = h.some; printable = λ k l. each_at Printable text k 0 l h.bytes }
 
-pub short_words : (fs : List (List ℕ)) → Each Short fs → Words fs
-short_words [] h = tt
-short_words (f ∷ fs) h = (short_word f h.0, short_words fs h.1)
-
 -- no field has a byte below 33
 pub word_free : (sep : ℕ) (text : List ℕ) → sep < 33 → Word text → Free sep text
 word_free sep text l w = each_from (λ b. b ≡ sep → ⊥) text 0 (λ k h e. let p = (w.printable k h).0 in omega arith)
-
-pub words_free : (sep : ℕ) (fs : List (List ℕ)) → sep < 33 → Words fs → Each (Free sep) fs
-words_free sep [] l w = tt
-words_free sep (f ∷ fs) l w = (word_free sep f l w.0, words_free sep fs l w.1)
 
 pub short_decimal : (v : ℕ) → v ≤ 65535 → Short (decimal v)
 short_decimal v l =
@@ -140,10 +132,10 @@ fits_header h range = record {
 -- the line of such fields
 module _ (fs : List (List ℕ)) (fits : Fits fs) where
   pub line_words : Words fs
-  line_words = short_words fs fits.short
+  line_words = each_weaker Short Word short_word fs fits.short
 
   pub fields_free : (sep : ℕ) → sep < 33 → Each (Free sep) fs
-  fields_free sep l = words_free sep fs l line_words
+  fields_free sep l = each_weaker Word (Free sep) (λ f. word_free sep f l) fs line_words
 
   pub line_split : split 32 (join_with_byte 32 fs) ≡ fs
   line_split = split_back 32 fs fits.some (fields_free 32 (omega arith))
@@ -162,17 +154,8 @@ module _ (fs : List (List ℕ)) (fits : Fits fs) where
   line_tidy = record { short = line_short; words = subst Words (sym line_split) line_words }
 
 module _ (st : Statement) (range : InRange st) where
-  pub written_words : Words (fields_of st)
-  written_words = line_words (fields_of st) (fits_statement st range)
-
-  pub written_fields_free : (sep : ℕ) → sep < 33 → Each (Free sep) (fields_of st)
-  written_fields_free = fields_free (fields_of st) (fits_statement st range)
-
   pub written_split : split 32 (written st) ≡ fields_of st
   written_split = line_split (fields_of st) (fits_statement st range)
-
-  pub written_short : length (written st) ≤ 80
-  written_short = line_short (fields_of st) (fits_statement st range)
 
   pub written_free : Free 10 (written st)
   written_free = line_free (fields_of st) (fits_statement st range)
@@ -181,17 +164,8 @@ module _ (st : Statement) (range : InRange st) where
   written_tidy = line_tidy (fields_of st) (fits_statement st range)
 
 module _ (h : Header) (range : HeaderInRange h) where
-  pub header_words : Words (header_fields h)
-  header_words = line_words (header_fields h) (fits_header h range)
-
-  pub header_fields_free : (sep : ℕ) → sep < 33 → Each (Free sep) (header_fields h)
-  header_fields_free = fields_free (header_fields h) (fits_header h range)
-
   pub header_split : split 32 (join_with_byte 32 (header_fields h)) ≡ header_fields h
   header_split = line_split (header_fields h) (fits_header h range)
-
-  pub header_short : length (join_with_byte 32 (header_fields h)) ≤ 80
-  header_short = line_short (header_fields h) (fits_header h range)
 
   pub header_free : Free 10 (join_with_byte 32 (header_fields h))
   header_free = line_free (header_fields h) (fits_header h range)

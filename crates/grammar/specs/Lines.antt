@@ -1,5 +1,6 @@
 -- The text of a line: 1 to 80 bytes, fields of bytes 33 to 126, with single spaces only between fields.
-use Rattle.std.specs.Prelude.{ℕ, ◌<◌, ◌≤◌, List, [], ◌∷◌, length, slice_index}
+use Rattle.std.specs.Prelude.{ℕ, ◌<◌, ◌≤◌, List, length, slice_index}
+use Rattle.std.specs.List.{AllByRecursion}
 use Rattle.grammar.specs.Pieces.{split}
 
 -- a field: not empty, and of bytes 33 to 126
@@ -8,8 +9,7 @@ pub record Word (text : List ℕ) : Type 0 where
   pub printable : (k : ℕ) → k < length text → (33 ≤ slice_index text k) × (slice_index text k ≤ 126)
 
 abbrev pub Words : List (List ℕ) → Type 0
-Words [] = Unit {0}
-Words (f ∷ fs) = Word f × Words fs
+Words = AllByRecursion Word
 
 -- what stands between the spaces are fields
 pub record Tidy (line : List ℕ) : Type 0 where

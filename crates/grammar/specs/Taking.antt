@@ -7,12 +7,19 @@ use Rattle.grammar.specs.declared.field.Fields.{Fields}
 use Rattle.grammar.specs.Fields.{IsName, Numeral, EndOf}
 use Rattle.grammar.specs.Pieces.{left}
 use Rattle.grammar.specs.Reading.{Reads}
+use Rattle.grammar.specs.Rules.{first}
 
 -- the next field of the line, which has the text
 pub record Takes (before : Fields) (text : List ℕ) (after : Fields) : Type 0 where
   pub cut : left 32 before.words.rest ≡ text ∷ left 32 after.words.rest
   pub line : after.line ≡ before.line
   pub count : after.read ≡ before.read + 1
+
+-- the letter of the line of number n is taken
+pub record Begun (all : List (List ℕ)) (n : ℕ) (fields : Fields) : Type 0 where
+  pub cut : all ≡ first all ∷ left 32 fields.words.rest
+  pub line : fields.line ≡ n
+  pub count : fields.read ≡ 1
 
 -- the next field is taken and read
 pub record Next {T : Type 0} (Writes : T → List ℕ → Type 0) (before after : Fields) (r : Result T LineFault) : Type 0 where

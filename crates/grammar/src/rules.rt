@@ -1,8 +1,9 @@
 // The rule of each line.
-ghost use Rattle.std.specs.Prelude.{◌≡◌, ◌+◌, ◌<◌, ◌∷◌, length, MatchResult, ◌≢◌};
+ghost use Rattle.std.specs.Prelude.{◌≡◌, length, MatchResult, ◌≢◌};
 ghost use Rattle.grammar.specs.Pieces.{split, left};
 ghost use Rattle.grammar.specs.Rules.{first, numbers_of, KindSays, BlockLine, PartLine, WireLine, EndLine, ItemLine, BoardLine, CountsLine, HeaderLine};
 ghost use Rattle.grammar.specs.Statements.{letter_N, letter_B, letter_P, letter_W, letter_E};
+ghost use Rattle.grammar.specs.Taking.{Begun};
 ghost use Rattle.grammar.specs.Verdicts.{judged, line_verdict};
 ghost use Rattle.grammar.specs.declared.fault.LineFault.TheVariants.{FieldCount};
 
@@ -17,7 +18,7 @@ impl<'a> Line<'a> {
     // The fields after the letter.
     #[tactic(auto, using(crate::proofs::Rejoining::split_some))]
     fn fields(self) -> Fields<'a>
-        ensures are_the_rest { (split 32 self.entry.text.now ≡ first (split 32 self.entry.text.now) ∷ left 32 result.words.rest) × (result.line ≡ self.entry.number) × (result.read ≡ 1) }
+        ensures are_the_rest { Begun (split 32 self.entry.text.now) self.entry.number result }
     {
         let mut fields = Fields::of(self.text, self.number);
         fields.next();
@@ -26,7 +27,7 @@ impl<'a> Line<'a> {
 
     // The fields after the letter, where there are so many with that.
     fn counted(self, count: usize) -> Result<Fields<'a>, LineFault>
-        ensures counts_or_refuses { MatchResult result (λ fields. (length (split 32 self.entry.text.now) ≡ count) × (split 32 self.entry.text.now ≡ first (split 32 self.entry.text.now) ∷ left 32 fields.words.rest) × (fields.line ≡ self.entry.number) × (fields.read ≡ 1)) (λ e. (length (split 32 self.entry.text.now) ≢ count) × (e ≡ FieldCount self.entry.number)) }
+        ensures counts_or_refuses { let all = split 32 self.entry.text.now in MatchResult result (λ fields. (length all ≡ count) × Begun all self.entry.number fields) (λ e. (length all ≢ count) × (e ≡ FieldCount self.entry.number)) }
     {
         if self.count != count {
             return Err(LineFault::FieldCount { line: self.number });

@@ -10,12 +10,13 @@ pub returns-in_err-ins : goal.returns-in_err-ins
 returns-in_err-ins c =
     let all = split 32 c.args.line.text.now in
     let begun = c.in_ok-fields.ensures.counts_or_refuses in
+    let first = begun.1.count in
     let name = c.in_ok-name.ensures.reads_or_refuses in
     let second = name.takes.count in
     let fault = err_from_is_err_and c.from_residual-in_err-ins.result c.from_residual-in_err-ins.ensures.1 in
     record {
       asks_in_order =
-          block_named _ all _ _ _ _ _ begun.0 begun.1 begun.2 name
+          block_named _ all _ _ _ _ begun.0 begun.1 name
           (no_number 0 8 _ _ (a_number 0 8 ∷ []) 3 _ (Says all _) _ c.in_err-ins.ensures.reads_or_refuses (omega arith) (ap (judged line_verdict) fault.1 ∙ ap (λ x. Err (line_verdict x)) fault.2));
     }
 
@@ -23,6 +24,7 @@ pub returns-in_err-outs : goal.returns-in_err-outs
 returns-in_err-outs c =
     let all = split 32 c.args.line.text.now in
     let begun = c.in_ok-fields.ensures.counts_or_refuses in
+    let first = begun.1.count in
     let name = c.in_ok-name.ensures.reads_or_refuses in
     let ins = c.in_ok-ins.ensures.reads_or_refuses in
     let second = name.takes.count in
@@ -30,7 +32,7 @@ returns-in_err-outs c =
     let fault = err_from_is_err_and c.from_residual-in_err-outs.result c.from_residual-in_err-outs.ensures.1 in
     record {
       asks_in_order =
-          block_named _ all _ _ _ _ _ begun.0 begun.1 begun.2 name
+          block_named _ all _ _ _ _ begun.0 begun.1 name
           (number_read 0 8 _ _ (a_number 0 8 ∷ []) 3 _ (Says all _) _ ins
           (no_number 0 8 _ _ [] 4 _ (Says all _) _ c.in_err-outs.ensures.reads_or_refuses (omega arith) (ap (judged line_verdict) fault.1 ∙ ap (λ x. Err (line_verdict x)) fault.2)));
     }
@@ -44,7 +46,7 @@ returns c =
     let outs = c.in_ok-outs.ensures.reads_or_refuses in
     record {
       asks_in_order =
-          block_named _ all _ _ _ _ _ begun.0 begun.1 begun.2 name
+          block_named _ all _ _ _ _ begun.0 begun.1 name
           (number_read 0 8 _ _ (a_number 0 8 ∷ []) 3 _ (Says all _) _ ins
-          (number_read 0 8 _ _ [] 4 _ (Says all _) _ outs (block_said all _ _ _ _ _ _ _ begun.0 begun.1 c.requires.letter name ins outs)));
+          (number_read 0 8 _ _ [] 4 _ (Says all _) _ outs (block_said _ all _ _ _ _ _ _ _ begun.0 begun.1 c.requires.letter name ins outs)));
     }

@@ -1,4 +1,4 @@
-use Rattle.std.proofs.Common.{◌≡◌, ◌+◌, Ok, Err, ap, ◌∙◌, rules}
+use Rattle.std.proofs.Common.{◌≡◌, Ok, Err, ap, ◌∙◌, rules}
 use Rattle.std.proofs.lemmas.Result.{err_from_is_err_and}
 use Rattle.grammar.specs.Pieces.{split}
 use Rattle.grammar.specs.Verdicts.{judged, line_verdict}
@@ -14,7 +14,7 @@ returns-in_err-kind c =
     let q : judged line_verdict c.from_residual-in_err-kind.result ≡ Err (line_verdict fault) = ap (judged line_verdict) p.1 ∙ ap (λ x. Err (line_verdict x)) p.2 in
     record {
       asks_in_order =
-          part_goes _ all _ _ _ _ _ c.in_ok-name.name c.in_ok-word.word (Err (line_verdict fault)) _ begun.0 begun.1 c.requires.letter c.next.ensures.takes_one.0 c.next-2.ensures.takes_one.0 (search rules) (search rules)
+          part_goes _ all _ _ _ _ _ c.in_ok-name.name c.in_ok-word.word (Err (line_verdict fault)) _ begun c.requires.letter c.next.ensures.takes_one.0 c.next-2.ensures.takes_one.0 (search rules) (search rules)
           c.in_ok-name.ensures.reads_or_refuses (λ v e. let same : line_verdict fault ≡ v = cc in q ∙ ap Err same) (λ x e. (cc)) c.in_err-kind.ensures.asks_in_order;
     }
 
@@ -24,6 +24,6 @@ returns c =
     let begun = c.fields-fields.ensures.are_the_rest in
     record {
       asks_in_order =
-          part_goes _ all _ _ _ _ _ c.in_ok-name.name c.in_ok-word.word (Ok c.in_ok-kind.kind) _ begun.0 begun.1 c.requires.letter c.next.ensures.takes_one.0 c.next-2.ensures.takes_one.0 (search rules) (search rules)
+          part_goes _ all _ _ _ _ _ c.in_ok-name.name c.in_ok-word.word (Ok c.in_ok-kind.kind) _ begun c.requires.letter c.next.ensures.takes_one.0 c.next-2.ensures.takes_one.0 (search rules) (search rules)
           c.in_ok-name.ensures.reads_or_refuses (λ v e. (cc)) (λ x e. (cc)) c.in_ok-kind.ensures.asks_in_order;
     }

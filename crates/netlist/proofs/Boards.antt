@@ -1,5 +1,5 @@
 -- How the reader of a board goes on.
-use Rattle.std.proofs.Common.{◌≡◌, ℕ, ◌+◌, length, None, Ok, Err, sym, ap, ◌∙◌, subst, inl, inr, arith}
+use Rattle.std.proofs.Common.{◌≡◌, ◌+◌, length, None, ap, ◌∙◌, subst, arith}
 use Rattle.std.proofs.lemmas.List.{length-append}
 use Rattle.clock.specs.Time.{Time}
 use Rattle.part.specs.declared.catalogue.Catalogue.{Catalogue}
@@ -24,13 +24,6 @@ board_inside t o =
 
 -- the reader begins where nothing is drawn
 module _ {C : Type 0} (time : Time C) (lines : Lines) (s : Sheet (Catalogue C)) (nothing : s ≡ blank) where
-  pub blank_open : Closed s → ⊥
-  blank_open h = omega (arith, h.1, ap (λ (t : Sheet (Catalogue _)). length t.plan.blocks) nothing)
-
-  -- the first statement is refused
-  pub opening_stops : (e : BlockFault) → Stops time (record { lines = lines; drawn = s }) e → Stops time (undrawn lines) e
-  opening_stops e h = subst (λ s. Stops time (record { lines = lines; drawn = s }) e) nothing h
-
   module _ (there : Place C) (st : Statement) (h : Stated time (record { lines = lines; drawn = s }) there st) where
     opened : Stated time (undrawn lines) there st
     opened = subst (λ s. Stated time (record { lines = lines; drawn = s }) there st) nothing h

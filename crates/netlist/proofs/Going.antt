@@ -1,5 +1,5 @@
 -- How the reader of a block goes on.
-use Rattle.std.proofs.Common.{◌≡◌, ℕ, ◌+◌, ◌<◌, ◌≤◌, List, [], ◌∷◌, length, Some, None, Ok, Err, Result, IsErrAnd, MatchResult, sym, refl, ap, subst, inl, inr, arith}
+use Rattle.std.proofs.Common.{◌≡◌, ℕ, ◌+◌, ◌<◌, ◌≤◌, List, [], ◌∷◌, length, Ok, Err, Result, IsErrAnd, MatchResult, sym, refl, ap, subst, inl, inr, arith}
 use Rattle.clock.specs.Time.{Time}
 use Rattle.part.specs.declared.catalogue.Catalogue.{Catalogue}
 use Rattle.drawing.specs.Calls.{Sheet}
@@ -26,10 +26,6 @@ pub record Sofar {C : Type 0} (time : Time C) (here there : Place C) : Type 0 wh
   pub grown : Grown here.drawn there.drawn
   pub open_now : there.drawn.current ≡ here.drawn.current
   pub no_more : length there.lines.rest.now ≤ length here.lines.rest.now
-
--- an open board is not closed
-pub not_closed : {C : Type 0} (s : Sheet (Catalogue C)) (b : ℕ) → s.current ≡ Some b → Closed s → ⊥
-not_closed s b e h = let n = h.0 in cc
 
 -- the `?` hands on a fault that stops the reader
 pub hands_on : {C T : Type 0} (time : Time C) (here : Place C) (P : T → Type 0) (e : BlockFault) (r : Result T BlockFault) → IsErrAnd r (λ y. y ≡ e) → Stops time here e → MatchResult r P (λ y. Stops time here y)

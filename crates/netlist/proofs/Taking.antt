@@ -1,13 +1,12 @@
 -- What becomes of a drawing when a statement is carried out, and which faults have a number.
-use Rattle.std.proofs.Common.{◌≡◌, ℕ, ◌+◌, ◌<◌, List, [], ◌∷◌, ◌++◌, length, Some, None, Ok, Err, Option, Result, sym, refl, ap, ◌∙◌, subst, inl, inr, ⊎_elim, arith}
+use Rattle.std.proofs.Common.{◌≡◌, ℕ, ◌+◌, ◌<◌, List, [], ◌∷◌, length, Some, None, Ok, Err, Option, Result, sym, refl, ap, ◌∙◌, subst, inl, inr, ⊎_elim, arith}
 use Rattle.std.proofs.lemmas.Bool.{cases_lt}
 use Rattle.clock.specs.Time.{Time}
 use Rattle.part.specs.declared.catalogue.Catalogue.{Catalogue}
 use Rattle.names.specs.declared.name.Name.{Name}
-use Rattle.board.specs.Wires.{block_at}
 use Rattle.board.specs.declared.parts.Block.{Block}
 use Rattle.board.specs.declared.pins.Wire.{Wire}
-use Rattle.drawing.specs.Calls.{Sheet, blank, Placed, next_site, outer, OpensBlock, AddsPart, AddsWire, ClosesBlock}
+use Rattle.drawing.specs.Calls.{Sheet, blank, Placed, next_site, OpensBlock}
 use Rattle.drawing.specs.Faults.{fault_number}
 use Rattle.drawing.specs.Lists.{Lists, nothing}
 use Rattle.drawing.specs.Questions.{Asks, BlockAsked, PartAsked, JoinAsked, WireAsked}
@@ -76,37 +75,6 @@ numbered time (says.Wire from to) before after line n f open_now said other h =
 numbered time says.Close before after line n f open_now said other (inl h) = absurd (in_block before.current line n says.Close (λ name ins outs p. cc) said h.0)
 numbered time says.Close before after line n f open_now said other (inr h) = absurd (ok_err _ f (sym h.2))
 
--- the open block and the blocks stay
-pub record Stays {P : Type 0} (before after : Sheet P) : Type 0 where
-  pub open_now : after.current ≡ before.current
-  pub blocks : after.plan.blocks ≡ before.plan.blocks
-
-pub part_stays : {P : Type 0} (name : Name) (ins outs : ℕ) (start : P) (before after : Sheet P) → AddsPart name ins outs start before after (Ok tt) → Stays before after
-part_stays name ins outs start before after h =
-    let a = placed_ok _ _ _ before after h in
-    record { open_now = ap (λ (s : Sheet _). s.current) a.is; blocks = ap (λ (s : Sheet _). s.plan.blocks) a.is }
-
-pub wire_stays : {P : Type 0} (from to : WireEnd) (before after : Sheet P) → AddsWire from to before after (Ok tt) → Stays before after
-wire_stays from to before after h =
-    let a = placed_ok _ _ _ before after h in
-    record { open_now = ap (λ (s : Sheet _). s.current) a.is; blocks = ap (λ (s : Sheet _). s.plan.blocks) a.is }
-
--- the block is closed
-pub closes : {P : Type 0} (before after : Sheet P) (b : ℕ) → before.current ≡ Some b → ClosesBlock before after (Ok tt) → (after.current ≡ outer before.plan.blocks b) × (after.plan.blocks ≡ before.plan.blocks)
-closes before after b e (inl h) = absurd (ok_err _ Misplaced h.1)
-closes before after b e (inr h) =
-    let same : h.0 ≡ b = let p = h.1 in cc in
-    (ap (λ (s : Sheet _). s.current) h.3 ∙ ap (outer before.plan.blocks) same, ap (λ (s : Sheet _). s.plan.blocks) h.3)
-
--- a block is opened in block b
-pub record OpenedIn {P : Type 0} (before after : Sheet P) (b : ℕ) : Type 0 where
-  pub inner : Block
-  pub parent : inner.parent ≡ b
-  pub deeper : inner.depth ≡ (block_at before.plan.blocks b).depth + 1
-  pub fits : (block_at before.plan.blocks b).depth < 8
-  pub blocks : after.plan.blocks ≡ before.plan.blocks ++ inner ∷ []
-  pub open_now : after.current ≡ Some (length before.plan.blocks)
-
 -- the last answer of the questions about a block
 block_passed : (l : Lists) (site : Site) (name : Name) (ins outs : ℕ) (x : Block) → BlockAsked l site name ins outs (Ok x) → (site.depth < 8) × (x ≡ record { name = name; parent = site.parent; depth = site.depth + 1; ins = ins; outs = outs })
 block_passed l site name ins outs x h =
@@ -115,20 +83,6 @@ block_passed l site name ins outs x h =
     let few = passed _ x free.1 in
     let deep = passed _ x few.1 in
     (⊎_elim (λ k. k) (λ k. absurd (deep.0 k)) (cases_lt site.depth 8), (let p = deep.1 in cc))
-
-pub opens : {P : Type 0} (name : Name) (ins outs : ℕ) (before after : Sheet P) (b : ℕ) → before.current ≡ Some b → OpensBlock name ins outs before after (Ok tt) → OpenedIn before after b
-opens name ins outs before after b e h =
-    let a = placed_ok _ _ _ before after h in
-    let site : a.where_to ≡ record { parent = b; depth = (block_at before.plan.blocks b).depth } = let p = a.placed in let q = ap (next_site before.plan.blocks) e in cc in
-    let made = block_passed before.plan a.where_to name ins outs a.what a.passed in
-    record {
-      inner = a.what;
-      parent = ap (λ (x : Block). x.parent) made.1 ∙ ap (λ (x : Site). x.parent) site;
-      deeper = ap (λ (x : Block). x.depth) made.1 ∙ ap (λ (x : Site). x.depth + 1) site;
-      fits = subst (λ (x : Site). x.depth < 8) site made.0;
-      blocks = ap (λ (s : Sheet _). s.plan.blocks) a.is;
-      open_now = ap (λ (s : Sheet _). s.current) a.is;
-    }
 
 -- the board is open
 pub record BoardOpen {P : Type 0} (after : Sheet P) : Type 0 where

@@ -1,7 +1,6 @@
 -- What the reader answers.
 use Rattle.std.specs.Prelude.{◌≡◌, ℕ, ◌⊎◌, List, [], ◌∷◌, length, IfOk, Some, None, Ok, Err, vec_items, Result, MatchResult, ◌≢◌}
 use Rattle.clock.specs.Time.{Time}
-use Rattle.part.specs.declared.catalogue.Catalogue.{Catalogue}
 use Rattle.drawing.specs.Calls.{sheet}
 use Rattle.drawing.specs.Lists.{Lists, lists}
 use Rattle.grammar.specs.declared.fault.LineFault.{LineFault}

@@ -1,9 +1,10 @@
 // The board that the example file writes.
-use crate::helpers::{example, generator, line};
+use crate::helpers::example;
 use board::pins::{Pin, Wire};
 use clock::clock::Clock;
 use clock::dense::Dense;
 use names::name::Name;
+use part::catalogue::Catalogue;
 use std::test::Fail;
 
 #[test]
@@ -33,10 +34,11 @@ fn parts_start_with_their_numbers(rt: HostRuntime) -> Result<(), Fail> {
     let [a, g] = board.starts() else {
         return Err(Fail::new("not two parts"));
     };
-    let a = line(a)?;
+    let (Catalogue::Line(a), Catalogue::Gen(g)) = (*a, *g) else {
+        return Err(Fail::new("not a delay line and a generator"));
+    };
     assert_eq!(rt; a.delay, 4);
     assert_eq!(rt; a.left, None);
-    let g = generator(g)?;
     assert_eq!(rt; g.period, 4);
     assert_eq!(rt; g.value, 7);
     assert_eq!(rt; g.step, 1);

@@ -1,12 +1,7 @@
 // What the tests share.
-use clock::clock::Clock;
 use clock::dense::Dense;
 use grammar::fault::Verdict;
 use netlist::reader::{Netlist, read_board};
-use part::catalogue::Catalogue;
-use part::generator::Gen;
-use part::line::Line;
-use part::uart::Uart;
 use std::alloc::Global;
 use std::test::Fail;
 
@@ -19,29 +14,6 @@ pub fn example(heap: Global) -> Result<Netlist<Dense>, Fail> {
 
 // The question that the file fails, and where.
 pub fn refusal(heap: Global, file: &[u8]) -> Result<Verdict, Fail> {
-    match read_board::<Dense>(file, heap) {
-        Ok(_) => Err(Fail::new("accepted")),
-        Err(fault) => Ok(fault.verdict().ok_or("no memory")?),
-    }
-}
-
-pub fn generator<C: Clock>(part: &Catalogue<C>) -> Result<Gen<C>, Fail> {
-    match *part {
-        Catalogue::Gen(part) => Ok(part),
-        _ => Err(Fail::new("no generator")),
-    }
-}
-
-pub fn uart<C: Clock>(part: &Catalogue<C>) -> Result<Uart<C>, Fail> {
-    match *part {
-        Catalogue::Uart(part) => Ok(part),
-        _ => Err(Fail::new("no UART")),
-    }
-}
-
-pub fn line<C: Clock>(part: &Catalogue<C>) -> Result<Line<C>, Fail> {
-    match *part {
-        Catalogue::Line(part) => Ok(part),
-        _ => Err(Fail::new("no delay line")),
-    }
+    let fault = read_board::<Dense>(file, heap).err().ok_or("accepted")?;
+    Ok(fault.verdict().ok_or("no memory")?)
 }

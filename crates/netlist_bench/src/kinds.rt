@@ -1,8 +1,8 @@
 // Every kind of part, on the plain clock.
-use crate::helpers::{generator, line, uart};
 use clock::clock::Clock;
 use clock::ticks::Ticks;
 use netlist::reader::read_board;
+use part::catalogue::Catalogue;
 use part::uart::Phase;
 use std::test::Fail;
 
@@ -13,16 +13,16 @@ fn each_kind_is_read_on_the_plain_clock(rt: HostRuntime) -> Result<(), Fail> {
     let [g, u, l] = board.starts() else {
         return Err(Fail::new("not three parts"));
     };
-    let g = generator(g)?;
+    let (Catalogue::Gen(g), Catalogue::Uart(u), Catalogue::Line(l)) = (*g, *u, *l) else {
+        return Err(Fail::new("not one part of each kind"));
+    };
     assert_eq!(rt; g.period, 65535);
     assert_eq!(rt; g.value, 255);
     assert_eq!(rt; g.step, 0);
     assert_eq!(rt; g.left, Ticks::wait(65535));
-    let u = uart(u)?;
     assert_eq!(rt; u.baud, 3);
     assert!(rt; matches!(u.phase, Phase::Idle));
     assert_eq!(rt; u.held, None);
-    let l = line(l)?;
     assert_eq!(rt; l.delay, 0);
     assert_eq!(rt; l.left, None);
     Ok(())

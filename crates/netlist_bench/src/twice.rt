@@ -1,7 +1,8 @@
 // A file that is read twice gives equal boards.
-use crate::helpers::{example, generator, line};
+use crate::helpers::example;
 use board::parts::{Block, Component};
 use clock::dense::Dense;
+use part::catalogue::Catalogue;
 use part::generator::Gen;
 use part::line::Line;
 use std::test::Fail;
@@ -45,7 +46,13 @@ fn reading_twice_gives_equal_boards(rt: HostRuntime) -> Result<(), Fail> {
     let ([a, g], [b, h]) = (a.starts(), b.starts()) else {
         return Err(Fail::new("not two parts"));
     };
-    assert!(rt; is_same_line(line(a)?, line(b)?));
-    assert!(rt; is_same_generator(generator(g)?, generator(h)?));
+    let (Catalogue::Line(a), Catalogue::Line(b)) = (*a, *b) else {
+        return Err(Fail::new("not two delay lines"));
+    };
+    let (Catalogue::Gen(g), Catalogue::Gen(h)) = (*g, *h) else {
+        return Err(Fail::new("not two generators"));
+    };
+    assert!(rt; is_same_line(a, b));
+    assert!(rt; is_same_generator(g, h));
     Ok(())
 }

@@ -1,6 +1,5 @@
-use Rattle.std.proofs.Common.{subst}
 use Rattle.netlist.specs.declared.fault.BlockFault.TheVariants.{Line}
-use Rattle.netlist.proofs.Whole.{Refused, hands_on_refused, size_stops, begins, header_stops, board_stops, all_read}
+use Rattle.netlist.proofs.Whole.{hands_on_refused, size_stops, begins, header_stops, board_stops, all_read}
 use Rattle.netlist.proofs.reader.read_all.Goals as goal
 
 pub returns-in_err-lines : goal.returns-in_err-lines

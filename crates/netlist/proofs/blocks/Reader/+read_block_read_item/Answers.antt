@@ -1,4 +1,3 @@
-use Rattle.drawing.specs.Calls.{sheet}
 use Rattle.netlist.specs.Steps.{place}
 use Rattle.netlist.proofs.Rings.{inside_stays, goes_on, ends, sofar_more, sofar_closes}
 use Rattle.netlist.proofs.blocks.Reader.+read_block_read_item.Goals as goal

@@ -1,33 +1,23 @@
 -- Moments as they are written and read.
-use Rattle.std.proofs.Common.{◌≡◌, ℕ, ◌^◌, ◌<◌, List, [], ◌∷◌, ◌++◌, length, Some, None, decimal, Option, sym, ap, ◌∙◌, subst, arith, Bor, MatchOption}
-use Rattle.std.proofs.lemmas.Str.Parse.{digit_at}
-use Rattle.std.proofs.lemmas.Fmt.{decimal_is_IsNumeral, decimal_injective}
+use Rattle.std.proofs.Common.{◌≡◌, ℕ, ◌<◌, List, [], ◌∷◌, ◌++◌, length, Some, None, decimal, Result, Ok, Err, inr, sym, ap, ◌∙◌, arith, Bor}
+use Rattle.std.specs.Result.{OkIff, result_ok}
+use Rattle.std.proofs.lemmas.Fmt.{decimal_injective}
 use Rattle.clock.specs.declared.dense.Dense.{Dense}
 use Rattle.grammar.specs.Pieces.{split, Parts}
-use Rattle.grammar.proofs.Splitting.{Lacks, split_none}
+use Rattle.grammar.proofs.Splitting.{split_none}
 use Rattle.script.specs.Moments.{dense_text}
 use Rattle.grammar.proofs.Rejoining.{split_line, free_from_lacks}
-use Rattle.script.proofs.Joining.{parted, only}
-
-pub cases_map : {T : Type 0} (r : Option T) {A B : Type 0} {P Q : T → Type 0} → (A → B) → ((t : T) → P t → Q t) → MatchOption r A P → MatchOption r B Q
-cases_map None f g h = f h
-cases_map (Some t) f g h = g t h
-
-no_colon : (n : ℕ) → n < 2 ^ 64 → Lacks 58 (decimal n) (length (decimal n))
-no_colon n l k h e = let d = digit_at (decimal n) k (decimal_is_IsNumeral n l).0.1 h in omega arith
+use Rattle.script.proofs.Joining.{parted, only, numeral_lacks}
 
 -- the pieces of a pair's text
 pub pieces_of : (m : Dense) (text : List ℕ) → dense_text m ≡ text → split 58 text ≡ decimal m.tick ∷ decimal m.micro ∷ []
 pieces_of m text e =
     let tick = m.held_tick in
     let micro = m.held_micro in
-    ap (split 58) (sym e) ∙ split_line 58 (decimal m.tick) (decimal m.micro) (free_from_lacks 58 _ (no_colon m.tick (omega arith))) ∙ ap (λ ps. decimal m.tick ∷ ps) (split_none 58 (decimal m.micro) (no_colon m.micro (omega arith)))
+    ap (split 58) (sym e) ∙ split_line 58 (decimal m.tick) (decimal m.micro) (free_from_lacks 58 _ (numeral_lacks 58 m.tick (inr (omega arith)) (omega arith))) ∙ ap (λ ps. decimal m.tick ∷ ps) (split_none 58 (decimal m.micro) (numeral_lacks 58 m.micro (inr (omega arith)) (omega arith)))
 
 pub whole_is_none : (text piece : List ℕ) → Parts 58 text piece None → (m : Dense) → dense_text m ≡ text → ⊥
 whole_is_none text piece h m e = let long = ap length (sym h.pieces ∙ pieces_of m text e) in omega arith
-
-pub cut : {text piece : List ℕ} {o : Option (Bor (List ℕ))} {rest : Bor (List ℕ)} → o ≡ Some rest → Parts 58 text piece o → Parts 58 text piece (Some rest)
-cut {text} {piece} e h = subst (λ r. Parts 58 text piece r) e h
 
 module _ (text piece : List ℕ) (rest : Bor (List ℕ)) (h : Parts 58 text piece (Some rest)) where
   pub first_is : (m : Dense) → dense_text m ≡ text → decimal m.tick ≡ piece
@@ -48,3 +38,15 @@ module _ (text piece : List ℕ) (rest : Bor (List ℕ)) (h : Parts 58 text piec
   pub writes : (a b : ℕ) → decimal a ≡ piece → decimal b ≡ rest.now → (m : Dense) → m.tick ≡ a → m.micro ≡ b → dense_text m ≡ text
   writes a b v w m p q =
       ap (λ n. decimal n ++ 58 ∷ decimal m.micro) p ∙ ap (λ n. decimal a ++ 58 ∷ decimal n) q ∙ ap (λ t. t ++ 58 ∷ decimal b) v ∙ ap (λ t. piece ++ 58 ∷ t) w ∙ sym (parted 58 text piece rest h)
+
+-- a number that is narrowed, and one that is too large for it
+pub narrowed : {E : Type 0} (r : Result ℕ E) (P : Type 0) (n k : ℕ) → OkIff r P n → result_ok r ≡ Some k → k ≡ n
+narrowed (Ok x) P n k h e = grind arith
+narrowed (Err d) P n k h e = grind arith
+
+pub too_large : {E : Type 0} (r : Result ℕ E) (P : Type 0) (n : ℕ) → OkIff r P n → result_ok r ≡ None → P → ⊥
+too_large (Ok x) P n h e p = grind arith
+too_large (Err d) P n h e p = h p
+
+-- what is known of a text that is read as a pair
+pub ruleset pairs_are_read = (whole_is_none, first_is, second_is, tick_is, micro_is, writes, narrowed, too_large)

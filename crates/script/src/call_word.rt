@@ -1,6 +1,7 @@
 // The words of calls.
-ghost use Rattle.std.specs.Prelude.{◌≡◌, MatchOption, ◌≢◌};
 ghost use Rattle.script.specs.Words.{call_word};
+
+use grammar::word::Word;
 
 // The word that a call begins with.
 #[derive(Clone, Copy, PartialEq, Eq, Debug)]
@@ -12,11 +13,11 @@ pub enum CallWord {
     Lend,
 }
 
-impl CallWord {
-    pub fn named(word: &[u8]) -> Option<CallWord>
-        ensures names_it_or_refuses { MatchOption result ((k : CallWord) → call_word k ≢ word.now) (λ k. call_word k ≡ word.now) }
-    {
-        match word {
+impl Word for CallWord {
+    ghost spelling = { call_word };
+
+    fn named(text: &[u8]) -> Option<CallWord> {
+        match text {
             b"put" => Some(CallWord::Put),
             b"step" => Some(CallWord::Step),
             b"next" => Some(CallWord::Next),

@@ -16,6 +16,7 @@ pub enum ScriptFault {
     Memory,
 }
 
+// kept: what a derived From makes no clause says, and read_calls promises which fault comes
 impl From<AllocError> for ScriptFault {
     ghost from_gives = { λ _ r. r ≡ Memory };
 
@@ -33,6 +34,7 @@ impl<T: Drop> From<AllocFailed<T>> for ScriptFault {
 }
 
 // The calls of a file, or the first line that is none.
+#[tactic(auto, using(crate::proofs::Passing::goes, crate::proofs::Passing::done))]
 pub fn read_calls<C: Moment>(file: &[u8], heap: Global) -> Result<Vec<Call<C>>, ScriptFault>
     ensures reads_each_line_or_refuses { MatchResult result (λ v. Script C.Display.output file.now v.items) (λ e. Fails C.Display.output file.now e) }
 {
@@ -40,15 +42,10 @@ pub fn read_calls<C: Moment>(file: &[u8], heap: Global) -> Result<Vec<Call<C>>, 
     let mut rest = file;
     'lines: while !rest.is_empty() {
         let line = calls.len() + 1;
+        let bad_line = ScriptFault::BadLine { line };
         let cut = first_piece(rest, b'\n');
-        let Some(after) = cut.rest else {
-            return Err(ScriptFault::BadLine { line });
-        };
-        let Some(call) = read_call(cut.piece) else {
-            return Err(ScriptFault::BadLine { line });
-        };
-        calls.push(call)?;
-        rest = after;
+        rest = cut.rest.ok_or(bad_line)?;
+        calls.push(read_call(cut.piece).ok_or(bad_line)?)?;
     }
     Ok(calls)
 }

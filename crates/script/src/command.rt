@@ -1,6 +1,7 @@
 // The words of commands.
-ghost use Rattle.std.specs.Prelude.{◌≡◌, MatchOption, ◌≢◌};
 ghost use Rattle.script.specs.Words.{command_word};
+
+use grammar::word::Word;
 
 // What the program is told to do.
 #[derive(Clone, Copy, PartialEq, Eq, Debug)]
@@ -11,11 +12,11 @@ pub enum Command {
     Help,
 }
 
-impl Command {
-    pub fn named(word: &[u8]) -> Option<Command>
-        ensures names_it_or_refuses { MatchOption result ((k : Command) → command_word k ≢ word.now) (λ k. command_word k ≡ word.now) }
-    {
-        match word {
+impl Word for Command {
+    ghost spelling = { command_word };
+
+    fn named(text: &[u8]) -> Option<Command> {
+        match text {
             b"check" => Some(Command::Check),
             b"run" => Some(Command::Run),
             b"play" => Some(Command::Play),

@@ -5,32 +5,16 @@ ghost use Rattle.script.specs.Calls.{hex_digit, PinSet};
 
 use grammar::cut::first_piece;
 
-// The three fields of a text that has three.
-#[derive(Clone, Copy)]
-pub(crate) struct Three<'a> {
-    pub(crate) first: &'a [u8],
-    pub(crate) second: &'a [u8],
-    pub(crate) third: &'a [u8],
-}
-
-pub(crate) fn three_fields(text: &[u8]) -> Option<Three<'_>>
-    ensures parts_or_refuses { MatchOption result (length (split 32 text.now) ≢ 3) (λ t. split 32 text.now ≡ t.first.now ∷ t.second.now ∷ t.third.now ∷ []) }
+// The fields of a text that has three.
+#[tactic(auto, using(grammar::proofs::Rejoining::split_some))]
+pub(crate) fn three_fields(text: &[u8]) -> Option<(&[u8], &[u8], &[u8])>
+    ensures parts_or_refuses { MatchOption result (length (split 32 text.now) ≢ 3) (λ t. split 32 text.now ≡ t.0.now ∷ t.1.now ∷ t.2.now ∷ []) }
 {
     let first = first_piece(text, b' ');
-    let Some(rest) = first.rest else {
-        return None;
-    };
-    let second = first_piece(rest, b' ');
-    let Some(last) = second.rest else {
-        return None;
-    };
-    let third = first_piece(last, b' ');
+    let second = first_piece(first.rest?, b' ');
+    let third = first_piece(second.rest?, b' ');
     match third.rest {
-        None => Some(Three {
-            first: first.piece,
-            second: second.piece,
-            third: third.piece,
-        }),
+        None => Some((first.piece, second.piece, third.piece)),
         Some(_) => None,
     }
 }
@@ -50,14 +34,8 @@ fn hex_value(digit: u8) -> Option<u8>
 pub fn pin_set(text: &[u8]) -> Option<u8>
     ensures reads_or_refuses { MatchOption result ((v : ℕ) → PinSet v text.now → ⊥) (λ v. PinSet v text.now) }
 {
-    if text.len() != 2 {
-        return None;
-    }
-    let Some(high) = hex_value(text[0]) else {
+    let [high, low] = text else {
         return None;
     };
-    match hex_value(text[1]) {
-        Some(low) => Some(16 * high + low),
-        None => None,
-    }
+    Some(16 * hex_value(*high)? + hex_value(*low)?)
 }

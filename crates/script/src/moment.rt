@@ -24,30 +24,23 @@ pub trait Moment: Clock + fmt::Display {
 }
 
 // The whole number of ticks that a text writes.
+#[tactic(auto, using(std::proofs::lemmas::Fmt::decimal_injective))]
 fn ticks(text: &[u8]) -> Option<Ticks>
     ensures reads_or_refuses { MatchOption result ((m : Ticks) → ticks_text m ≢ text.now) (λ m. ticks_text m ≡ text.now) }
 {
-    match natural(text) {
-        Some(count) => Ticks::new(count),
-        None => None,
-    }
+    Ticks::new(natural(text)?)
 }
 
 // The pair that a text writes: two numbers, with a colon between them.
+#[tactic(auto, using(crate::proofs::Written::pairs_are_read))]
 fn dense(text: &[u8]) -> Option<Dense>
     ensures reads_or_refuses { MatchOption result ((m : Dense) → dense_text m ≢ text.now) (λ m. dense_text m ≡ text.now) }
 {
     let cut = first_piece(text, b':');
-    let Some(rest) = cut.rest else {
-        return None;
-    };
-    let Some(tick) = natural(cut.piece) else {
-        return None;
-    };
-    match natural(rest) {
-        Some(micro) if micro < 1 << 32 => Dense::new(tick, micro as u32),
-        _ => None,
-    }
+    let rest = cut.rest?;
+    let tick = natural(cut.piece)?;
+    let micro = u32::try_from(natural(rest)?).ok()?;
+    Dense::new(tick, micro)
 }
 
 impl Moment for Ticks {

@@ -1,6 +1,7 @@
 // The words of options.
-ghost use Rattle.std.specs.Prelude.{◌≡◌, MatchOption, ◌≢◌};
 ghost use Rattle.script.specs.Words.{option_word};
+
+use grammar::word::Word;
 
 // What a command may be told besides.
 #[derive(Clone, Copy, PartialEq, Eq, Debug)]
@@ -11,11 +12,11 @@ pub enum OptionWord {
     Summary,
 }
 
-impl OptionWord {
-    pub fn named(word: &[u8]) -> Option<OptionWord>
-        ensures names_it_or_refuses { MatchOption result ((k : OptionWord) → option_word k ≢ word.now) (λ k. option_word k ≡ word.now) }
-    {
-        match word {
+impl Word for OptionWord {
+    ghost spelling = { option_word };
+
+    fn named(text: &[u8]) -> Option<OptionWord> {
+        match text {
             b"--until" => Some(OptionWord::Until),
             b"--budget" => Some(OptionWord::Budget),
             b"--clock" => Some(OptionWord::Clock),

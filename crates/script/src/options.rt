@@ -5,6 +5,7 @@ ghost use Rattle.script.specs.Settings.{untold, Sets, Unsettable};
 use crate::clock_word::ClockWord;
 use crate::option_word::OptionWord;
 use grammar::numbers::natural;
+use grammar::word::Word;
 
 // How many steps a run takes that is not told.
 const BUDGET: u64 = 1_000_000;
@@ -35,27 +36,29 @@ impl<'a> Settings<'a> {
     pub fn with(self, option: OptionWord, value: &'a [u8]) -> Option<Settings<'a>>
         ensures sets_one_or_refuses { MatchOption result (Unsettable option value.now) (λ s. Sets option self.entry value.entry s) }
     {
-        let mut told = self;
         match option {
-            OptionWord::Until => told.until = Some(value),
-            OptionWord::Budget => match natural(value) {
-                Some(budget) => told.budget = budget,
-                None => return None,
-            },
-            OptionWord::Clock => match ClockWord::named(value) {
-                Some(clock) => told.clock = clock,
-                None => return None,
-            },
-            OptionWord::Summary => return None,
+            OptionWord::Until => Some(Settings {
+                until: Some(value),
+                ..self
+            }),
+            OptionWord::Budget => Some(Settings {
+                budget: natural(value)?,
+                ..self
+            }),
+            OptionWord::Clock => Some(Settings {
+                clock: ClockWord::named(value)?,
+                ..self
+            }),
+            OptionWord::Summary => None,
         }
-        Some(told)
     }
 
     pub fn summarized(self) -> Settings<'a>
         ensures sets_the_summary_alone { result ≡ record { until = self.entry.until; budget = self.entry.budget; clock = self.entry.clock; summary = true } }
     {
-        let mut told = self;
-        told.summary = true;
-        told
+        Settings {
+            summary: true,
+            ..self
+        }
     }
 }

@@ -13,17 +13,15 @@ pub struct Piece<'a> {
 }
 
 // The piece between separators that has so many before it.
+#[tactic(auto, using(crate::proofs::Passing::pass, crate::proofs::Passing::none_left))]
 pub fn piece_at(text: &[u8], separator: u8, before: usize) -> Option<Piece<'_>>
     ensures finds_or_refuses { MatchOption result (length (split separator text.now) ≤ before) (λ p. Stands separator text.now before p.text.now p.start) }
 {
     let mut cut = first_piece(text, separator);
     let mut start = 0;
-    'pieces: for i in 0..before {
-        let Some(rest) = cut.rest else {
-            return None;
-        };
+    'pieces: for _ in 0..before {
         start += cut.piece.len() + 1;
-        cut = first_piece(rest, separator);
+        cut = first_piece(cut.rest?, separator);
     }
     Some(Piece {
         text: cut.piece,

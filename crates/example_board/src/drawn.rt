@@ -11,10 +11,7 @@ use part::line::Line;
 use std::alloc::Global;
 
 pub fn name(text: &[u8]) -> Result<Name, Trouble> {
-    match Name::new(text) {
-        Some(name) => Ok(name),
-        None => Err(Trouble::Name),
-    }
+    Name::new(text).ok_or(Trouble::Name)
 }
 
 // A pin of the block itself.
@@ -33,18 +30,13 @@ pub fn line(delay: u16) -> Catalogue<Dense> {
 }
 
 pub fn generator(period: u16, value: u8, step: u8) -> Result<Catalogue<Dense>, Trouble> {
-    match Gen::new(period, value, step) {
-        Some(part) => Ok(Catalogue::Gen(part)),
-        None => Err(Trouble::Part),
-    }
+    let part = Gen::new(period, value, step).ok_or(Trouble::Part)?;
+    Ok(Catalogue::Gen(part))
 }
 
 // The board of a drawing that is closed.
 pub fn finished(drawing: Drawing<Catalogue<Dense>>) -> Result<Board<Catalogue<Dense>>, Trouble> {
-    match drawing.finish() {
-        Ok(board) => Ok(board),
-        Err(_) => Err(Trouble::Open),
-    }
+    drawing.finish().map_err(|_| Trouble::Open)
 }
 
 // The block io: a delay line between its input and its output.

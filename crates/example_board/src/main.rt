@@ -6,13 +6,13 @@ mod drawn;
 mod print;
 mod trouble;
 
-use crate::print::{complaint, report, report_rows};
+use crate::drawn::generator;
+use crate::print::{report, report_rows};
 use crate::trouble::Trouble;
 use board::nested::Board;
 use clock::clock::Clock;
 use clock::dense::Dense;
 use part::catalogue::Catalogue;
-use part::generator::Gen;
 use session::answers::Ran;
 use session::places::{Event, Place};
 use session::session::Session;
@@ -25,11 +25,8 @@ fn simulated(
     trace: &mut [Event<Dense>],
 ) -> Result<Ran, Trouble> {
     let network = board.flatten(heap)?;
-    let Some(spare) = Gen::new(1, 0, 0) else {
-        return Err(Trouble::Part);
-    };
     let mut places = [Place {
-        part: Catalogue::Gen(spare),
+        part: generator(1, 0, 0)?,
         last: Dense::zero(),
     }; 2];
     let mut session = Session::new();
@@ -58,8 +55,6 @@ fn work(rt: &HostRuntime) -> Result<(), Trouble> {
 }
 
 fn main(rt: HostRuntime) -> anyhow::Result<()> {
-    match work(&rt) {
-        Ok(()) => Ok(()),
-        Err(trouble) => Err(complaint(trouble)),
-    }
+    work(&rt)?;
+    Ok(())
 }

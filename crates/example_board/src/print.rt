@@ -1,24 +1,13 @@
 // What is printed, in words.
 use crate::trouble::Trouble;
-use anyhow::anyhow;
 use board::nested::Board;
 use clock::dense::Dense;
 use coupling::coupling::{Coupling, Source};
 use coupling::network::Network;
 use part::catalogue::Catalogue;
-use session::answers::{Ran, Stop};
+use session::answers::Ran;
 use session::places::Event;
 use std::alloc::Global;
-
-fn reason(stop: Stop) -> &'static str {
-    match stop {
-        Stop::Budget => "the budget of steps is spent",
-        Stop::NothingDue => "no part will ever fire again",
-        Stop::Horizon => "the next firing comes after the horizon",
-        Stop::Ceiling => "the next firing is beyond the clock's ceiling",
-        Stop::TraceFull => "the trace has no free record for the next event",
-    }
-}
 
 // A part's path as text.
 fn path_text(
@@ -27,11 +16,7 @@ fn path_text(
     part: usize,
 ) -> Result<String, Trouble> {
     let bytes = board.path(heap, part)?;
-    let mut text = String::new(heap);
-    for b in bytes.iter() {
-        text.push(char::from(*b))?;
-    }
-    Ok(text)
+    Ok(String::from_utf8_lossy(heap, bytes.as_slice())?)
 }
 
 fn print_event(
@@ -67,9 +52,9 @@ pub fn report(
     }
     let steps = ran.steps;
     let events = ran.events;
-    let number = ran.stop.number();
-    let why = reason(ran.stop);
-    println!(rt; "{steps} steps, {events} events, stopped for reason {number}: {why}.")?;
+    let stop = ran.stop;
+    let number = stop.number();
+    println!(rt; "{steps} steps, {events} events, stopped for reason {number}: {stop}.")?;
     Ok(())
 }
 
@@ -89,9 +74,8 @@ fn print_row(
             print!(rt; "{name} pin 0 reaches")?;
         }
     }
-    for part in 0..network.parts() {
-        let pins = row.sets[part];
-        if pins != 0 {
+    for (part, pins) in row.sets.iter().take(network.parts()).enumerate() {
+        if *pins != 0 {
             let name = path_text(heap, board, part)?;
             print!(rt; " {name} ({pins:02x})")?;
         }
@@ -115,16 +99,4 @@ pub fn report_rows(
         print_row(rt, heap, board, network, Source::Part(part))?;
     }
     Ok(())
-}
-
-pub fn complaint(trouble: Trouble) -> anyhow::Error {
-    match trouble {
-        Trouble::Name => anyhow!("a name is not well formed"),
-        Trouble::Part => anyhow!("a part's numbers are out of range"),
-        Trouble::Drawing(_) => anyhow!("the drawing was refused"),
-        Trouble::Open => anyhow!("a block is still open"),
-        Trouble::Memory => anyhow!("there is no memory left"),
-        Trouble::Call(_) => anyhow!("a call was refused"),
-        Trouble::Print => anyhow!("the output could not be written"),
-    }
 }

@@ -1,39 +1,24 @@
-// What can go wrong.
+// What can go wrong, and what is said of it.
 use drawing::fault::Fault;
 use session::answers::Refusal;
 use std::alloc::AllocError;
 use std::io;
+use thiserror::Error;
 
+#[derive(Debug, Drop, Error)]
 pub enum Trouble {
+    #[error("a name is not well formed")]
     Name,
+    #[error("a part's numbers are out of range")]
     Part,
-    Drawing(Fault),
+    #[error("the drawing was refused")]
+    Drawing(#[from] Fault),
+    #[error("a block is still open")]
     Open,
-    Memory,
-    Call(Refusal),
-    Print,
-}
-
-impl From<Fault> for Trouble {
-    fn from(fault: Fault) -> Trouble {
-        Trouble::Drawing(fault)
-    }
-}
-
-impl From<AllocError> for Trouble {
-    fn from(_e: AllocError) -> Trouble {
-        Trouble::Memory
-    }
-}
-
-impl From<Refusal> for Trouble {
-    fn from(refusal: Refusal) -> Trouble {
-        Trouble::Call(refusal)
-    }
-}
-
-impl From<io::Error> for Trouble {
-    fn from(_e: io::Error) -> Trouble {
-        Trouble::Print
-    }
+    #[error("there is no memory left")]
+    Memory(#[from] AllocError),
+    #[error("a call was refused")]
+    Call(#[from] Refusal),
+    #[error("the output could not be written")]
+    Print(#[from] io::Error),
 }

@@ -1,5 +1,6 @@
 -- Names stay unique, and so each question has one answer.
 use Rattle.std.proofs.Common.{◌≡◌, ℕ, ◌+◌, ◌≤◌, ◌⊎◌, List, [], ◌∷◌, ◌++◌, length, Ok, Result, sym, refl, ap, ◌∙◌, subst, inl, inr, ⊎_elim, arith}
+use Rattle.asking.proofs.Only.{ask_only}
 use Rattle.std.proofs.lemmas.List.{get_or_append_left, get_or_push, length_push}
 use Rattle.std.proofs.lemmas.Bool.{cases_lt, cases_eq}
 use Rattle.names.specs.declared.name.Name.{Name}
@@ -112,10 +113,7 @@ wire_unique l w u f g h = u f g (record { block = h.block; name = h.name; first 
 
 -- the answers of one question
 asks_only : {T bad on off : Type 0} (fault : Fault) (r q : Result T Fault) → Asks bad fault r on → Asks bad fault q off → (on → off → q ≡ r) → q ≡ r
-asks_only fault r q (inl a) (inl b) go = b.1 ∙ sym a.1
-asks_only fault r q (inl a) (inr b) go = absurd (b.0 a.0)
-asks_only fault r q (inr a) (inl b) go = absurd (a.0 b.0)
-asks_only fault r q (inr a) (inr b) go = go a.1 b.1
+asks_only fault r q h k go = ask_only (λ a b. b ∙ sym a) go h k
 
 pub block_asked_only : (l : Lists) (site : Site) (name : Name) (ins outs : ℕ) (r q : Result Block Fault) → BlockAsked l site name ins outs r → BlockAsked l site name ins outs q → q ≡ r
 block_asked_only l site name ins outs r q h k =

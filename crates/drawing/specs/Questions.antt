@@ -1,5 +1,6 @@
 -- The questions that a call asks, in their order. The first that goes badly gives the fault.
 use Rattle.std.specs.Prelude.{◌≡◌, ℕ, ◌+◌, ◌<◌, ◌≤◌, false, ◌⊎◌, List, length, Ok, Err, Result}
+use Rattle.asking.specs.Asking.{Ask}
 use Rattle.names.specs.declared.name.Name.{Name}
 use Rattle.board.specs.declared.parts.Block.{Block}
 use Rattle.board.specs.declared.parts.Component.{Component}
@@ -15,7 +16,7 @@ use Rattle.drawing.specs.Lists.{Lists}
 
 -- A question. Where it goes badly, the fault is the answer; else the questions go on.
 abbrev pub Asks : {T : Type 0} → Type 0 → Fault → Result T Fault → Type 0 → Type 0
-Asks bad fault r goes_on = (bad × (r ≡ Err fault)) ⊎ ((bad → ⊥) × goes_on)
+Asks bad fault r = Ask bad (r ≡ Err fault)
 
 -- of any new child of this block: its pins and its name
 abbrev pub ChildAsked : {T : Type 0} → Lists → ℕ → Name → ℕ → ℕ → Result T Fault → Type 0 → Type 0

@@ -1,6 +1,8 @@
 -- Questions in their order.
 use Rattle.std.proofs.Common.{◌≡◌, ℕ, ◌+◌, List, [], ◌∷◌, Ok, Err, Result, sym, ◌∙◌, inl, inr, arith}
-use Rattle.grammar.specs.Rules.{Asks, Form, Meets, Formed}
+use Rattle.asking.proofs.Only.{ask_only}
+use Rattle.asking.specs.Asking.{Ask}
+use Rattle.grammar.specs.Rules.{Form, Meets, Formed}
 use Rattle.grammar.specs.Verdicts.{of_line}
 use Rattle.grammar.specs.declared.fault.Verdict.{Verdict}
 
@@ -20,11 +22,11 @@ pub ok_err : {T E : Type 0} (x : T) (e : E) → ◌≡◌ {A = Result T E} (Ok x
 ok_err x e same = let z : ◌≡◌ {A = ℕ} 0 1 = cc in omega arith
 
 -- where the outcome is no fault, the questions go on
-pub asks_ok : {T bad on : Type 0} (x : T) (v : Verdict) → Asks bad (◌≡◌ {A = Result T Verdict} (Ok x) (Err v)) on → on
+pub asks_ok : {T bad on : Type 0} (x : T) (v : Verdict) → Ask bad (◌≡◌ {A = Result T Verdict} (Ok x) (Err v)) on → on
 asks_ok x v (inl h) = absurd (ok_err x v h.1)
 asks_ok x v (inr h) = h.1
 
-pub asks_well : {T bad on : Type 0} (x : T) (v : Verdict) → Asks bad (◌≡◌ {A = Result T Verdict} (Ok x) (Err v)) on → bad → ⊥
+pub asks_well : {T bad on : Type 0} (x : T) (v : Verdict) → Ask bad (◌≡◌ {A = Result T Verdict} (Ok x) (Err v)) on → bad → ⊥
 asks_well x v (inl h) b = ok_err x v h.1
 asks_well x v (inr h) b = h.0 b
 
@@ -35,14 +37,8 @@ formed_ok (form ∷ forms) (f ∷ fs) k n x on h = formed_ok forms fs (k + 1) n 
 
 -- two outcomes of the same questions are the same
 module _ {T : Type 0} (r q : Result T Verdict) where
-  pub ways_only : {is one other on more : Type 0} → (one → other → q ≡ r) → (on → more → q ≡ r) → Asks is one on → Asks is other more → q ≡ r
-  ways_only here rest (inl g) (inl h) = here g.1 h.1
-  ways_only here rest (inl g) (inr h) = absurd (h.0 g.0)
-  ways_only here rest (inr g) (inl h) = absurd (g.0 h.0)
-  ways_only here rest (inr g) (inr h) = rest g.1 h.1
-
-  pub asks_only : {bad on more : Type 0} (v : Verdict) → (on → more → q ≡ r) → Asks bad (r ≡ Err v) on → Asks bad (q ≡ Err v) more → q ≡ r
-  asks_only v = ways_only (λ g h. h ∙ sym g)
+  pub asks_only : {bad on more : Type 0} (v : Verdict) → (on → more → q ≡ r) → Ask bad (r ≡ Err v) on → Ask bad (q ≡ Err v) more → q ≡ r
+  asks_only v = ask_only (λ g h. h ∙ sym g)
 
   pub formed_only : (forms : List Form) (fs : List (List ℕ)) (k n : ℕ) (on more : Type 0) → (on → more → q ≡ r) → Formed forms fs k n r on → Formed forms fs k n q more → q ≡ r
   formed_only [] fs k n on more rest g h = rest g h

@@ -1,5 +1,7 @@
 -- A line has one outcome.
 use Rattle.std.proofs.Common.{◌≡◌, ℕ, ◌+◌, ◌<◌, ◌≤◌, List, [], ◌∷◌, ◌++◌, get_or, drop, Ok, Err, decimal, Result, sym, refl, ap, ◌∙◌, subst, ap₂, inl, inr, arith}
+use Rattle.asking.proofs.Only.{ask_only}
+use Rattle.asking.specs.Asking.{Ask}
 use Rattle.std.proofs.lemmas.Fmt.{decimal_injective}
 use Rattle.std.proofs.lemmas.Bool.{both_ways}
 use Rattle.names.specs.Names.{well_named, name_text, Spelled}
@@ -10,7 +12,7 @@ use Rattle.drawing.specs.declared.ends.WireEnd.{WireEnd}
 use Rattle.drawing.specs.declared.ends.WireEnd.TheVariants.{Own, Child}
 use Rattle.grammar.specs.Fields.{kind_word, end_text, EndSpelled}
 use Rattle.grammar.specs.Pieces.{split}
-use Rattle.grammar.specs.Rules.{block_forms, wire_forms, count_forms, Heads, Kinded, Asks, a_name, first, numbers_of, Says, BlockLine, PartLine, WireLine, EndLine, ByLetter, ItemLine, BoardLine, HeaderLine}
+use Rattle.grammar.specs.Rules.{block_forms, wire_forms, count_forms, Heads, Kinded, a_name, first, numbers_of, Says, BlockLine, PartLine, WireLine, EndLine, ByLetter, ItemLine, BoardLine, HeaderLine}
 use Rattle.grammar.specs.Statements.{letter_B, letter_P, letter_W, letter_E, kind_fields, fields_of, header_fields, KindInRange, InRange, HeaderInRange}
 use Rattle.grammar.specs.Verdicts.{of_text, of_line}
 use Rattle.grammar.specs.declared.fault.Verdict.{Verdict}
@@ -21,7 +23,7 @@ use Rattle.grammar.specs.declared.statement.PartKind.{PartKind}
 use Rattle.grammar.specs.declared.statement.PartKind.TheVariants as kind
 use Rattle.grammar.specs.declared.statement.Statement.{Statement}
 use Rattle.grammar.specs.declared.statement.Statement.TheVariants.{Open, Part, Wire, Close}
-use Rattle.grammar.proofs.Asking.{ways_only, asks_only, formed_only}
+use Rattle.grammar.proofs.Asking.{asks_only, formed_only}
 use Rattle.grammar.proofs.Pointing.{same_pointed}
 
 -- the first byte of the first field
@@ -113,10 +115,10 @@ differ a b ne w p q = ne (ap (λ t. get_or t 0 0) (sym p ∙ q))
 -- the letters one by one
 abbrev ByLetters : List (List ℕ) → ℕ → Result Statement Verdict → Type 0
 ByLetters fs n r =
-    Asks (first fs ≡ letter_B) (BlockLine fs n r)
-    (Asks (first fs ≡ letter_P) (PartLine fs n r)
-    (Asks (first fs ≡ letter_W) (WireLine fs n r)
-    (Asks (first fs ≡ letter_E) (EndLine fs n r) (r ≡ Err (of_line 3 n 1)))))
+    Ask (first fs ≡ letter_B) (BlockLine fs n r)
+    (Ask (first fs ≡ letter_P) (PartLine fs n r)
+    (Ask (first fs ≡ letter_W) (WireLine fs n r)
+    (Ask (first fs ≡ letter_E) (EndLine fs n r) (r ≡ Err (of_line 3 n 1)))))
 
 by_letters : (fs : List (List ℕ)) (n : ℕ) (r : Result Statement Verdict) → ByLetter fs n r → ByLetters fs n r
 by_letters fs n r (inl h) = inl h
@@ -151,10 +153,10 @@ module _ (fs : List (List ℕ)) (n : ℕ) (r q : Result Statement Verdict) where
 
   by_letter_only : ByLetter fs n r → ByLetter fs n q → q ≡ r
   by_letter_only g h =
-      ways_only r q block_only
-      (ways_only r q part_only
-      (ways_only r q wire_only
-      (ways_only r q end_only (λ e f. f ∙ sym e)))) (by_letters fs n r g) (by_letters fs n q h)
+      ask_only block_only
+      (ask_only part_only
+      (ask_only wire_only
+      (ask_only end_only (λ e f. f ∙ sym e)))) (by_letters fs n r g) (by_letters fs n q h)
 
 pub item_only : (line : List ℕ) (n : ℕ) (r q : Result Statement Verdict) → ItemLine line n r → ItemLine line n q → q ≡ r
 item_only line n r q = asks_only r q (of_text 2 n 0) (by_letter_only (split 32 line) n r q)

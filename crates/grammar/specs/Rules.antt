@@ -1,5 +1,6 @@
 -- The questions that are asked of a line, in their order.
 use Rattle.std.specs.Prelude.{◌≡◌, ℕ, ◌+◌, ◌<◌, ◌⊎◌, List, [], ◌∷◌, length, drop, Ok, Err, Result, ◌≢◌, slice_index_or}
+use Rattle.asking.specs.Asking.{Ask}
 use Rattle.names.specs.declared.name.Name.{Name}
 use Rattle.drawing.specs.declared.ends.WireEnd.{WireEnd}
 use Rattle.grammar.specs.declared.fault.Verdict.{Verdict}
@@ -13,10 +14,6 @@ use Rattle.grammar.specs.Lines.{Tidy}
 use Rattle.grammar.specs.Pieces.{split}
 use Rattle.grammar.specs.Statements.{letter_N, letter_B, letter_P, letter_W, letter_E, kind_fields, fields_of, header_fields, KindInRange, InRange, HeaderInRange}
 use Rattle.grammar.specs.Verdicts.{of_text, of_line}
-
--- A question. Where it goes badly, this is the outcome; else the questions go on.
-abbrev pub Asks : Type 0 → Type 0 → Type 0 → Type 0
-Asks bad outcome goes_on = (bad × outcome) ⊎ ((bad → ⊥) × goes_on)
 
 -- what a field has to be
 pub data Form : Type 0 where
@@ -34,11 +31,11 @@ abbrev pub Formed : {T : Type 0} → List Form → List (List ℕ) → ℕ → �
 Formed [] fs k n r goes_on = goes_on
 Formed (form ∷ forms) [] k n r goes_on = ⊥
 Formed (form ∷ forms) (f ∷ fs) k n r goes_on =
-    Asks (Meets form f → ⊥) (r ≡ Err (of_line 4 n k)) (Formed forms fs (k + 1) n r goes_on)
+    Ask (Meets form f → ⊥) (r ≡ Err (of_line 4 n k)) (Formed forms fs (k + 1) n r goes_on)
 
 -- so many fields
 abbrev pub Counted : {T : Type 0} → ℕ → List (List ℕ) → ℕ → Result T Verdict → Type 0 → Type 0
-Counted count fs n r goes_on = Asks (length fs ≢ count) (r ≡ Err (of_line 3 n 0)) goes_on
+Counted count fs n r goes_on = Ask (length fs ≢ count) (r ≡ Err (of_line 3 n 0)) goes_on
 
 -- what follows the letter of a block, of a wire and of the header
 abbrev pub block_forms : List Form
@@ -74,14 +71,14 @@ BlockLine fs n r = Counted 4 fs n r (Formed block_forms (drop 1 fs) 2 n r (Says 
 -- after the kind word: the count of its numbers, then each field
 abbrev pub Kinded : List (List ℕ) → ℕ → KindWord → Result Statement Verdict → Type 0
 Kinded fs n k r =
-    Asks (length fs ≢ 3 + length (numbers_of k)) (r ≡ Err (of_line 4 n 0))
+    Ask (length fs ≢ 3 + length (numbers_of k)) (r ≡ Err (of_line 4 n 0))
     (Formed (a_name ∷ []) (drop 1 fs) 2 n r (Formed (numbers_of k) (drop 3 fs) 4 n r (Says fs r)))
 
 -- the kind word first
 abbrev pub PartLine : List (List ℕ) → ℕ → Result Statement Verdict → Type 0
 PartLine fs n r =
-    Asks (length fs < 3) (r ≡ Err (of_line 3 n 0))
-    (Asks ((k : KindWord) → kind_word k ≢ slice_index_or fs 2 []) (r ≡ Err (of_line 4 n 3))
+    Ask (length fs < 3) (r ≡ Err (of_line 3 n 0))
+    (Ask ((k : KindWord) → kind_word k ≢ slice_index_or fs 2 []) (r ≡ Err (of_line 4 n 3))
     ((k : KindWord) × (kind_word k ≡ slice_index_or fs 2 []) × Kinded fs n k r))
 
 abbrev pub WireLine : List (List ℕ) → ℕ → Result Statement Verdict → Type 0
@@ -95,7 +92,7 @@ first fs = slice_index_or fs 0 []
 
 -- its text first
 abbrev pub TidyLine : {T : Type 0} → List ℕ → ℕ → Result T Verdict → Type 0 → Type 0
-TidyLine line n r goes_on = Asks (Tidy line → ⊥) (r ≡ Err (of_text 2 n 0)) goes_on
+TidyLine line n r goes_on = Ask (Tidy line → ⊥) (r ≡ Err (of_text 2 n 0)) goes_on
 
 -- a line in a block: B, P, W or E
 abbrev pub ByLetter : List (List ℕ) → ℕ → Result Statement Verdict → Type 0
@@ -113,7 +110,7 @@ ItemLine line n r = TidyLine line n r (ByLetter (split 32 line) n r)
 abbrev pub BoardLine : List ℕ → ℕ → Result Statement Verdict → Type 0
 BoardLine line n r =
     TidyLine line n r
-    (Asks (first (split 32 line) ≢ letter_B) (r ≡ Err (of_line 3 n 1))
+    (Ask (first (split 32 line) ≢ letter_B) (r ≡ Err (of_line 3 n 1))
     (BlockLine (split 32 line) n r))
 
 abbrev pub CountsLine : List (List ℕ) → ℕ → Result Header Verdict → Type 0
@@ -123,5 +120,5 @@ CountsLine fs n r = Counted 4 fs n r (Formed count_forms (drop 1 fs) 2 n r (Head
 abbrev pub HeaderLine : List ℕ → ℕ → Result Header Verdict → Type 0
 HeaderLine line n r =
     TidyLine line n r
-    (Asks (first (split 32 line) ≢ letter_N) (r ≡ Err (of_line 3 n 1))
+    (Ask (first (split 32 line) ≢ letter_N) (r ≡ Err (of_line 3 n 1))
     (CountsLine (split 32 line) n r))

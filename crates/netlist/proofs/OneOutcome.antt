@@ -1,5 +1,6 @@
 -- A file gives one outcome.
 use Rattle.std.proofs.Common.{◌≡◌, ℕ, ◌+◌, ◌⊎◌, List, [], ◌∷◌, length, Some, None, Ok, Err, Option, Result, sym, ap, ◌∙◌, subst, inl, inr}
+use Rattle.asking.proofs.Only.{ask_only}
 use Rattle.clock.specs.Time.{Time}
 use Rattle.part.specs.declared.catalogue.Catalogue.{Catalogue}
 use Rattle.drawing.specs.Calls.{Sheet, blank}
@@ -12,7 +13,7 @@ use Rattle.grammar.specs.Verdicts.{of_text, of_board}
 use Rattle.grammar.specs.declared.fault.Verdict.{Verdict}
 use Rattle.grammar.specs.declared.statement.Header.{Header}
 use Rattle.grammar.specs.declared.statement.Statement.{Statement}
-use Rattle.grammar.proofs.Asking.{ok_err, ways_only, asks_only}
+use Rattle.grammar.proofs.Asking.{ok_err, asks_only}
 use Rattle.grammar.proofs.Unique.{item_only, board_only, header_only}
 use Rattle.netlist.specs.Drawings.{LineSays, Drawn, LineGives}
 use Rattle.netlist.specs.Files.{Reading, Goes, Agrees, LinesGive, FileGives}
@@ -71,10 +72,10 @@ module _ {C : Type 0} (time : Time C) where
 
   pub goes_only : (pieces : List (List ℕ)) (n bytes : ℕ) (s : Sheet (Catalogue C)) (a b : Result (Reading C) Verdict) → Unique s.plan →
       Goes time pieces n bytes s a → Goes time pieces n bytes s b → b ≡ a
-  goes_only [] n bytes s a b u = ways_only a b (λ g h. h ∙ sym g) (λ g h. h ∙ sym g)
-  goes_only (last ∷ []) n bytes s a b u = ways_only a b (λ g h. h ∙ sym g) (λ g h. h ∙ sym g)
+  goes_only [] n bytes s a b u = ask_only (λ g h. h ∙ sym g) (λ g h. h ∙ sym g)
+  goes_only (last ∷ []) n bytes s a b u = ask_only (λ g h. h ∙ sym g) (λ g h. h ∙ sym g)
   goes_only (line ∷ next ∷ more) n bytes s a b u =
-      ways_only a b (λ g h. h ∙ sym g)
+      ask_only (λ g h. h ∙ sym g)
       (either_only a b (LineGives time line n s) _ _ (λ r q. line_only line n s r q u)
       (λ t gives. goes_only (next ∷ more) (n + 1) (bytes + (length line + 1)) t a b (line_unique line n s t u gives)))
 

@@ -1,12 +1,13 @@
 -- What a file gives, line by line.
 use Rattle.std.specs.Prelude.{◌≡◌, ℕ, ◌+◌, ◌-◌, ◌<◌, ◌⊎◌, List, [], ◌∷◌, length, None, Ok, Err, Result, ◌≢◌, slice_index_or}
+use Rattle.asking.specs.Asking.{Ask}
 use Rattle.clock.specs.Time.{Time}
 use Rattle.part.specs.declared.catalogue.Catalogue.{Catalogue}
 use Rattle.drawing.specs.Calls.{Sheet, blank}
 use Rattle.grammar.specs.declared.fault.Verdict.{Verdict}
 use Rattle.grammar.specs.declared.statement.Header.{Header}
 use Rattle.grammar.specs.Pieces.{split}
-use Rattle.grammar.specs.Rules.{Asks, HeaderLine}
+use Rattle.grammar.specs.Rules.{HeaderLine}
 use Rattle.grammar.specs.Verdicts.{of_text, of_line, of_board}
 use Rattle.netlist.specs.Drawings.{LineGives}
 
@@ -22,19 +23,19 @@ Closed s = (s.current ≡ None) × (0 < length s.plan.blocks)
 -- The lines from number n on, with so many bytes before them. Reading stops when the board is closed;
 -- what stands after the last byte 10 is no line.
 abbrev pub Goes : {C : Type 0} → Time C → List (List ℕ) → ℕ → ℕ → Sheet (Catalogue C) → Result (Reading C) Verdict → Type 0
-Goes time [] n bytes s out = Asks (Closed s) (out ≡ Ok (record { sheet = s; bytes = bytes })) (out ≡ Err (of_line 3 n 0))
-Goes time (last ∷ []) n bytes s out = Asks (Closed s) (out ≡ Ok (record { sheet = s; bytes = bytes })) (out ≡ Err (of_line 3 n 0))
+Goes time [] n bytes s out = Ask (Closed s) (out ≡ Ok (record { sheet = s; bytes = bytes })) (out ≡ Err (of_line 3 n 0))
+Goes time (last ∷ []) n bytes s out = Ask (Closed s) (out ≡ Ok (record { sheet = s; bytes = bytes })) (out ≡ Err (of_line 3 n 0))
 Goes {C} time (line ∷ next ∷ more) n bytes s out =
-    Asks (Closed s) (out ≡ Ok (record { sheet = s; bytes = bytes }))
+    Ask (Closed s) (out ≡ Ok (record { sheet = s; bytes = bytes }))
     (((v : Verdict) × LineGives time line n s (Err v) × (out ≡ Err v))
     ⊎ ((t : Sheet (Catalogue C)) × LineGives time line n s (Ok t) × Goes time (next ∷ more) (n + 1) (bytes + (length line + 1)) t out))
 
 -- the first line agrees with the board
 abbrev pub Agrees : {C : Type 0} → Header → Reading C → Result (Reading C) Verdict → Type 0
 Agrees h d out =
-    Asks (h.blocks ≢ length d.sheet.plan.blocks) (out ≡ Err (of_board 2))
-    (Asks (h.parts ≢ length d.sheet.plan.components) (out ≡ Err (of_board 3))
-    (Asks (h.wires ≢ length d.sheet.plan.wires) (out ≡ Err (of_board 4))
+    Ask (h.blocks ≢ length d.sheet.plan.blocks) (out ≡ Err (of_board 2))
+    (Ask (h.parts ≢ length d.sheet.plan.components) (out ≡ Err (of_board 3))
+    (Ask (h.wires ≢ length d.sheet.plan.wires) (out ≡ Err (of_board 4))
     (out ≡ Ok d)))
 
 -- 1 to 32,768 bytes, the last being 10
@@ -54,4 +55,4 @@ LinesGive {C} time (line ∷ more) out =
 
 -- a file: what it writes, or the first question that it fails, and where
 abbrev pub FileGives : {C : Type 0} → Time C → List ℕ → Result (Reading C) Verdict → Type 0
-FileGives time file out = Asks (Sized file → ⊥) (out ≡ Err (of_text 1 0 0)) (LinesGive time (split 10 file) out)
+FileGives time file out = Ask (Sized file → ⊥) (out ≡ Err (of_text 1 0 0)) (LinesGive time (split 10 file) out)

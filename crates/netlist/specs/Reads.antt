@@ -1,5 +1,6 @@
 -- What the reader answers.
 use Rattle.std.specs.Prelude.{◌≡◌, ℕ, ◌⊎◌, List, [], ◌∷◌, length, IfOk, Some, None, Ok, Err, vec_items, Result, MatchResult, ◌≢◌}
+use Rattle.asking.specs.Asking.{Ask}
 use Rattle.clock.specs.Time.{Time}
 use Rattle.drawing.specs.Calls.{sheet}
 use Rattle.drawing.specs.Lists.{Lists, lists}
@@ -9,7 +10,7 @@ use Rattle.grammar.specs.declared.fault.Verdict.{Verdict}
 use Rattle.grammar.specs.declared.statement.Header.{Header}
 use Rattle.grammar.specs.declared.statement.Statement.{Statement}
 use Rattle.grammar.specs.Pieces.{split}
-use Rattle.grammar.specs.Rules.{Asks, HeaderLine}
+use Rattle.grammar.specs.Rules.{HeaderLine}
 use Rattle.grammar.specs.Verdicts.{judged, line_verdict}
 use Rattle.netlist.specs.declared.blocks.Reader.{Reader}
 use Rattle.netlist.specs.declared.fault.BlockFault.{BlockFault}
@@ -48,9 +49,9 @@ AllRead {C} time file r =
 -- the counts of the first line are asked about in their order
 abbrev pub Agreed : Header → Lists → Result Unit BoardFault → Type 0
 Agreed h l r =
-    Asks (h.blocks ≢ length l.blocks) (r ≡ Err (Disagrees 2))
-    (Asks (h.parts ≢ length l.components) (r ≡ Err (Disagrees 3))
-    (Asks (h.wires ≢ length l.wires) (r ≡ Err (Disagrees 4))
+    Ask (h.blocks ≢ length l.blocks) (r ≡ Err (Disagrees 2))
+    (Ask (h.parts ≢ length l.components) (r ≡ Err (Disagrees 3))
+    (Ask (h.wires ≢ length l.wires) (r ≡ Err (Disagrees 4))
     (r ≡ Ok tt)))
 
 -- the answer is what the file gives, want of memory aside

@@ -1,5 +1,6 @@
 -- How the reader goes on, line by line.
 use Rattle.std.specs.Prelude.{◌≡◌, ℕ, ◌+◌, ◌<◌, ◌⊎◌, List, ◌∷◌, ◌++◌, length, Some, None, Ok, Err, Option, Result, MatchResult, IsErrAnd}
+use Rattle.asking.specs.Asking.{Ask}
 use Rattle.std.specs.declared.ops.ControlFlow.{ControlFlow}
 use Rattle.std.specs.declared.ops.ControlFlow.TheVariants.{Continue, Break}
 use Rattle.clock.specs.Time.{Time}
@@ -12,7 +13,6 @@ use Rattle.drawing.specs.declared.fault.Fault.TheVariants as fault
 use Rattle.grammar.specs.declared.fault.Verdict.{Verdict}
 use Rattle.grammar.specs.declared.statement.Statement.{Statement}
 use Rattle.grammar.specs.Pieces.{split}
-use Rattle.grammar.specs.Rules.{Asks}
 use Rattle.netlist.specs.declared.blocks.Reader.{Reader}
 use Rattle.netlist.specs.declared.fault.BlockFault.{BlockFault}
 use Rattle.netlist.specs.declared.fault.BlockFault.TheVariants.{Refused, Memory}
@@ -37,7 +37,7 @@ pub record Line (before : Lines) (line : List ℕ) (after : Lines) : Type 0 wher
 
 -- why line n is refused, where the drawing refuses what it says
 abbrev pub RefusedAs : Fault → ℕ → BlockFault → Type 0
-RefusedAs f n e = Asks (f ≡ fault.Memory) (e ≡ Memory) (e ≡ Refused f n)
+RefusedAs f n e = Ask (f ≡ fault.Memory) (e ≡ Memory) (e ≡ Refused f n)
 
 -- a statement is carried out
 abbrev pub Applies : {C : Type 0} → Time C → Statement → ℕ → Sheet (Catalogue C) → Sheet (Catalogue C) → Result Unit BlockFault → Type 0

@@ -1,7 +1,7 @@
 // The reader of netlist files.
 ghost use Rattle.std.specs.Prelude.{◌≡◌, ◌≢◌, IfOk};
 ghost use Rattle.drawing.specs.Lists.{lists};
-ghost use Rattle.grammar.specs.Rules.{Asks};
+ghost use Rattle.asking.specs.Asking.{Ask};
 ghost use Rattle.netlist.specs.declared.fault.BoardFault.TheVariants.{Disagrees};
 ghost use Rattle.netlist.specs.Netlists.{Sound};
 ghost use Rattle.netlist.specs.Reads.{HeaderRead, BoardRead, AllRead, Agreed, Gives, AcceptsOnly, AcceptsEvery, Refuses, OneOutcome};
@@ -70,7 +70,7 @@ fn read_all<C: Clock>(file: &[u8], heap: Global) -> Result<Drawn<C>, BlockFault>
 
 // Whether field `field` of the first line counts what was found.
 fn counts(field: usize, told: u16, found: usize) -> Result<(), BoardFault>
-    ensures asks { Asks (told ≢ found) (result ≡ Err (Disagrees field)) (result ≡ Ok tt) }
+    ensures asks { Ask (told ≢ found) (result ≡ Err (Disagrees field)) (result ≡ Ok tt) }
 {
     if usize::from(told) == found {
         Ok(())

@@ -53,7 +53,7 @@ module _ {P C : Type 0} (M : Model P C) where
   -- too few places
   lends_few : {T : Type 0} (rules rules' : Result T Refusal → Type 0) (before other : Memory P C) (n k : ℕ) (after : Left P C) (f : T → Answer C) (a : Answer C) → n < M.wiring.parts → k < M.wiring.parts →
       Lends M before n after f a rules → (after ≡ left before []) × Lends M other k (left other []) f a rules'
-  lends_few rules rules' before other n k after f a few few' (r, is, inl h) = (h.2, (r, is, inl (few', h.1, refl)))
+  lends_few rules rules' before other n k after f a few few' (r, is, inl h) = (h.1.1, (r, is, inl (few', (h.1.0, refl))))
   lends_few rules rules' before other n k after f a few few' (r, is, inr h) = absurd (h.0 few)
 
   makes_few : (free : ℕ) (before other : Memory P C) (n k : ℕ) (c : Call C) (a : Answer C) (after : Left P C) → n < M.wiring.parts → k < M.wiring.parts →

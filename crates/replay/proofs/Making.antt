@@ -28,7 +28,7 @@ silent_refused f n (Err e) h = refl
 -- a call that is lent all the places of a memory
 asked : {T P C : Type 0} {bad on rules : Type 0} (n : ℕ) (before after : Memory P C) (r : Result T Refusal) →
     Asks bad n before after r on → ((bad → ⊥) → on → rules) → Asks bad n (left before []) (left after []) r rules
-asked n before after r (inl a) go = inl (a.0, a.1, ap (λ m. left m []) a.2)
+asked n before after r (inl a) go = inl (a.0, (a.1.0, ap (λ m. left m []) a.1.1))
 asked n before after r (inr a) go = inr (a.0, go a.0 a.1)
 
 module _ {P C : Type 0} (M : Model P C) (before : Memory P C) (trace : List (Event C)) (c : Call C) where
@@ -69,7 +69,7 @@ module _ {P C : Type 0} (M : Model P C) (before : Memory P C) (trace : List (Eve
     where
       put_in : calls.Next M before.places r →
           Asks (length before.places < M.wiring.parts) 11 (left before []) (left before []) r (calls.Next M before.places r × (left before [] ≡ left before []))
-      put_in (inl a) = inl (a.0, a.1, refl)
+      put_in (inl a) = inl (a.0, (a.1.0, refl))
       put_in (inr a) = inr (a.0, (inr a, refl))
 
   pub run_made : (horizon : C) (budget room : ℕ) (after : Traced P C) (r : Result Ran Refusal) (a : Answer C) → c ≡ call.Run horizon budget room → a ≡ answered answer.Ran r →
@@ -78,17 +78,17 @@ module _ {P C : Type 0} (M : Model P C) (before : Memory P C) (trace : List (Eve
     events = [];
     makes_it =
         subst (λ x. MakesCall M (length trace) before (length before.places) x a (left after.memory [])) (sym e)
-        (r, is, inl (h.0, h.1, ap (λ (t : Traced P C). left t.memory []) h.2));
-    count = ap tells is ∙ silent_refused answer.Ran 11 r h.1;
-    written = ap (λ (t : Traced P C). t.trace) h.2;
+        (r, is, inl (h.0, (h.1.0, ap (λ (t : Traced P C). left t.memory []) h.1.1)));
+    count = ap tells is ∙ silent_refused answer.Ran 11 r h.1.0;
+    written = ap (λ (t : Traced P C). t.trace) h.1.1;
   }
   run_made horizon budget room after r a e is (inr (few, inl h)) = record {
     events = [];
     makes_it =
         subst (λ x. MakesCall M (length trace) before (length before.places) x a (left after.memory [])) (sym e)
-        (r, is, inr (few, inl (h.0, h.1, ap (λ (t : Traced P C). left t.memory []) h.2)));
-    count = ap tells is ∙ silent_refused answer.Ran 12 r h.1;
-    written = ap (λ (t : Traced P C). t.trace) h.2;
+        (r, is, inr (few, inl (h.0, (h.1.0, ap (λ (t : Traced P C). left t.memory []) h.1.1))));
+    count = ap tells is ∙ silent_refused answer.Ran 12 r h.1.0;
+    written = ap (λ (t : Traced P C). t.trace) h.1.1;
   }
   run_made horizon budget room after r a e is (inr (few, inr (late, (k, ok, h)))) = record {
     events = h.events;

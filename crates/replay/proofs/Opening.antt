@@ -25,11 +25,11 @@ module _ {P C : Type 0} (M : Model P C) (starts : List P) where
   pub replay_refused : (list : List (Lent C)) (before after : Memory P C) (answers : List (Answer C)) (trace : List (Event C)) (r : Result Unit Refusal) (e : Refusal) → r ≡ Err e → Opens M starts before after r →
       ReplaysFrom M starts list (loan before.places before.now answers trace) (loan after.places after.now answers trace) (Err e)
   replay_refused list before after answers trace r e is (inl h) =
-      inl (h.0, subst (λ x. Refuses 11 x) is h.1, (λ i. loan (h.2 i).places (h.2 i).now answers trace))
+      inl (h.0, (subst (λ x. Refuses 11 x) is h.1.0, (λ i. loan (h.1.1 i).places (h.1.1 i).now answers trace)))
   replay_refused list before after answers trace r e is (inr h) = absurd (cc (h.1.0, is))
 
   pub refused_kept : (list : List (Lent C)) (before after : Loan P C) (e : Refusal) → ReplaysFrom M starts list before after (Err e) → after ≡ before
-  refused_kept list before after e (inl h) = h.2
+  refused_kept list before after e (inl h) = h.1.1
   refused_kept list before after e (inr h) = absurd (cc h.1.1)
 
   abbrev zeroed : List (Place P C)
@@ -43,7 +43,7 @@ module _ {P C : Type 0} (M : Model P C) (starts : List P) where
     pub fits : M.wiring.parts ≤ length after.places
 
   pub open_done : (before after : Memory P C) (r : Result Unit Refusal) → r ≡ Ok tt → Opens M starts before after r → Opened before after
-  open_done before after (Ok x) is (inl h) = absurd h.1
+  open_done before after (Ok x) is (inl h) = absurd h.1.0
   open_done before after (Err e) is (inl h) = absurd cc
   open_done before after r is (inr h) =
       let p = M.wiring.parts in

@@ -23,7 +23,7 @@ use Rattle.replay.specs.Replays.{own}
 -- a question asked of another memory
 pub asks_map : {T S U : Type 0} {bad bad' on off Z : Type 0} (n : ℕ) (before after : S) (before' after' : U) (r : Result T Refusal) →
     (bad → bad') → (bad' → bad) → (after ≡ before → (after' ≡ before') × Z) → (on → off × Z) → Asks bad n before after r on → Asks bad' n before' after' r off × Z
-asks_map n before after before' after' r to from same go (inl a) = let s = same a.2 in (inl (to a.0, a.1, s.0), s.1)
+asks_map n before after before' after' r to from same go (inl a) = let s = same a.1.1 in (inl (to a.0, (a.1.0, s.0)), s.1)
 asks_map n before after before' after' r to from same go (inr a) = let k = go a.1 in (inr ((λ x. a.0 (from x)), k.0), k.1)
 
 pub take_changed : {X : Type 0} (n i : ℕ) (f : X → X) (xs : List X) → take n (changed_at i f xs) ≡ changed_at i f (take n xs)

@@ -62,14 +62,14 @@ module _ {P C : Type 0} (M : Model P C) where
   next_done places (Some d) r few f is = inr (few, inr (d.moment, d.part, f, ap Ok is))
 
   pub step_idle : (before : Memory P C) → (Few M.wiring before.places → ⊥) → NoneDue (dues M before.places) → Steps M before before (Err Rattle.session.specs.declared.answers.Refusal.TheVariants.NothingDue)
-  step_idle before few none = inr (few, inl (none, refl, refl))
+  step_idle before few none = inr (few, inl (none, (refl, refl)))
 
   some_due : (ds : List (Option C)) (m : C) (i : ℕ) → Imminent M.time ds m i → NoneDue ds → ⊥
   some_due ds m i h none = none_some m _ (none i) h.is_due
 
   pub step_late : (before : Memory P C) (m : C) (i : ℕ) → (Few M.wiring before.places → ⊥) → Imminent M.time (dues M before.places) m i → M.time.within m ≡ false →
       Steps M before before (Err Rattle.session.specs.declared.answers.Refusal.TheVariants.DueBeyondCeiling)
-  step_late before m i few h late = inr (few, inr (some_due _ m i h, (m, i, h, inl (late, refl, refl))))
+  step_late before m i few h late = inr (few, inr (some_due _ m i h, (m, i, h, inl (late, (refl, refl)))))
 
   pub step_done : (before after : Memory P C) (m : C) (i : ℕ) (r : Firing C) → (Few M.wiring before.places → ⊥) → Imminent M.time (dues M before.places) m i → M.time.within m ≡ true →
       r ≡ told (event_of M before.places m i) → after ≡ after_firing M before m i → Steps M before after (Ok r)

@@ -1,5 +1,6 @@
 -- Each call's relation pins its outcome.
 use Rattle.std.proofs.Common.{◌≡◌, ℕ, false, cond, eqb, ◌⊎◌, List, Some, None, Ok, Err, Option, Result, sym, refl, ap, ◌∙◌, subst₂, inl, inr}
+use Rattle.asking.proofs.Only.{ask_only}
 use Rattle.std.specs.Option.{ok_or}
 use Rattle.clock.specs.Time.{Laws}
 use Rattle.session.specs.Machine.{Model, Memory, dues, Imminent, NoneDue, event_of}
@@ -38,16 +39,13 @@ no_value (Some x) e d h n = absurd cc
 -- the outcomes of one question
 pub asks_only : {T M : Type 0} {bad : Type 0} {before : M} (n : ℕ) (after other : M) (r q : Result T Refusal) {on off : Type 0} →
     Asks bad n before after r on → Asks bad n before other q off → (on → off → (other ≡ after) × (q ≡ r)) → (other ≡ after) × (q ≡ r)
-asks_only n after other r q (inl a) (inl b) go = (b.2 ∙ sym a.2, refused_is n q b.1 ∙ sym (refused_is n r a.1))
-asks_only n after other r q (inl a) (inr b) go = absurd (b.0 a.0)
-asks_only n after other r q (inr a) (inl b) go = absurd (a.0 b.0)
-asks_only n after other r q (inr a) (inr b) go = go a.1 b.1
+asks_only n after other r q h k go = ask_only (λ a b. (b.1 ∙ sym a.1, refused_is n q b.0 ∙ sym (refused_is n r a.0))) go h k
 
 -- a refusal of a question keeps memory, if what follows does
 pub asks_kept : {T M : Type 0} {bad : Type 0} {before : M} (n : ℕ) (after : M) (r : Result T Refusal) {on : Type 0} →
     Asks bad n before after r on → (on → Kept before after r) → Kept before after r
 asks_kept n after (Ok x) a go = tt
-asks_kept n after (Err e) (inl a) go = a.2
+asks_kept n after (Err e) (inl a) go = a.1.1
 asks_kept n after (Err e) (inr a) go = go a.1
 
 pub ok_kept : {T M : Type 0} (before after : M) (r : Result T Refusal) (x : T) → r ≡ Ok x → Kept before after r

@@ -1,5 +1,6 @@
 -- What each call of a session answers, and what it leaves in memory.
 use Rattle.std.specs.Prelude.{◌≡◌, ℕ, suc, ◌-◌, ◌^◌, ◌<◌, ◌≤◌, true, false, cond, ◌⊎◌, List, [], ◌∷◌, ◌++◌, map, length, get_or, take, drop, Some, None, Ok, Err, Option, Result, ◌==◌, ◌≢◌, slice_index_or}
+use Rattle.asking.specs.Asking.{Ask}
 use Rattle.clock.specs.Time.{Time}
 use Rattle.coupling.specs.Wiring.{Wiring, reached}
 use Rattle.coupling.specs.declared.coupling.Source.{Source}
@@ -22,7 +23,7 @@ Refuses n (Err e) = refusal_number e ≡ n
 
 -- A question. Where its answer is bad, the call ends with this number and changes nothing; else the call goes on.
 abbrev pub Asks : {T M : Type 0} → Type 0 → ℕ → M → M → Result T Refusal → Type 0 → Type 0
-Asks bad n before after r goes_on = (bad × Refuses n r × (after ≡ before)) ⊎ ((bad → ⊥) × goes_on)
+Asks bad n before after r = Ask bad (Refuses n r × (after ≡ before))
 
 -- a refusal leaves memory as it was
 abbrev pub Kept : {T M : Type 0} → M → M → Result T Refusal → Type 0

@@ -15,7 +15,7 @@ returns-in_err-places g c =
     let p = err_from_is_err_and c.from_residual.result c.from_residual.ensures.1 in
     let is : c.from_residual.result ≡ Err refusal.TooFewPlaces = p.1 ∙ ap Err (p.2 ∙ no_value _ _ _ c.in_err-places.ensures.value c.in_err-places.ensures.ok_part) in
     let few : Few M.wiring places = omega (arith, part_missing places c.parts.result c.get.result c.get.ensures.lookup c.in_err-places.ensures.ok_part, c.parts.ensures.is_the_count) in
-    let h : Next M places c.from_residual.result = subst (Next M places) (sym is) (inl (few, refl, refl)) in
+    let h : Next M places c.from_residual.result = subst (Next M places) (sym is) (inl (few, (refl, refl))) in
     record { answers_the_earliest = h; has_one_outcome = next_only M g.met.C.Clock.lawful places _ h }
 
 pub returns : goal.returns

@@ -1,5 +1,5 @@
 -- From what the file gives: what is accepted, what is refused, and that there is no other outcome.
-use Rattle.std.proofs.Common.{◌≡◌, ℕ, ◌⊎◌, List, IfOk, IsOk, MatchResult, Some, Ok, Err, vec_items, Result, sym, refl, ap, ◌∙◌, subst, inl, inr, arith}
+use Rattle.std.proofs.Common.{◌≡◌, ℕ, ◌⊎◌, List, IfOk, IsOk, MatchResult, Some, Ok, Err, vec_items, Result, sym, refl, ap, ◌∙◌, inl, inr, arith}
 use Rattle.clock.specs.Time.{Time, Laws}
 use Rattle.part.specs.declared.catalogue.Catalogue.{Catalogue}
 use Rattle.board.specs.declared.nested.Board.{Board}
@@ -16,8 +16,8 @@ use Rattle.netlist.specs.declared.fault.BoardFault.TheVariants.{Block}
 use Rattle.netlist.specs.declared.reader.Netlist.{Netlist}
 use Rattle.netlist.specs.Files.{Reading, Closed, FileGives, Agrees}
 use Rattle.netlist.specs.Netlists.{Sound}
-use Rattle.netlist.specs.Reads.{reading, Agreed, Gives, AcceptsOnly, AcceptsEvery, Refuses, OneOutcome}
-use Rattle.netlist.specs.Verdicts.{block_verdict, board_verdict}
+use Rattle.netlist.specs.Reads.{reading, FileStops, Agreed, Gives, AcceptsOnly, AcceptsEvery, Refuses, OneOutcome}
+use Rattle.netlist.specs.Verdicts.{board_verdict}
 use Rattle.netlist.proofs.Accepted.{file_writes}
 use Rattle.netlist.proofs.OneOutcome.{file_only}
 use Rattle.netlist.proofs.Readable.{file_reads}
@@ -64,18 +64,21 @@ module _ {C : Type 0} (time : Time C) (file : List ℕ) where
   starts_sound laws (Ok n) h = let w = file_writes time file (reading n) h in writes_sound time file w.0 (reading n) laws w.1
   starts_sound laws (Err e) h = tt
 
-  -- a fault of the block layer
-  pub gives_fault : (e : BlockFault) (y : BoardFault) (r : Result (Netlist C) BoardFault) → (e ≡ Memory) ⊎ ((v : Verdict) × (block_verdict e ≡ Some v) × FileGives time file (Err v)) → y ≡ Block e → r ≡ Err y → Gives time file r
-  gives_fault e y r (inl m) p q = subst (λ x. Gives time file x) (sym q) (inl (p ∙ ap Block m))
-  gives_fault e y r (inr (v, k, h)) p q = subst (λ x. Gives time file x) (sym q) (inr (v, ap board_verdict p ∙ k, h))
+  -- a fault, as the answer
+  abbrev pub FaultGiven : BoardFault → Type 0
+  FaultGiven y = (y ≡ Block Memory) ⊎ ((v : Verdict) × (board_verdict y ≡ Some v) × FileGives time file (Err v))
+
+  pub block_fault : (e : BlockFault) → FileStops time file e → FaultGiven (Block e)
+  block_fault e (inl m) = inl (ap Block m)
+  block_fault e (inr stop) = inr stop
 
   -- the first line and the board, which agree or not
   module _ (h : Header) (d : Reading C) (from : (out : Result (Reading C) Verdict) → Agrees h d out → FileGives time file out) where
-    pub gives_disagreement : (e y : BoardFault) (r : Result (Netlist C) BoardFault) → Agreed h d.sheet.plan (Err e) → y ≡ e → r ≡ Err y → Gives time file r
-    gives_disagreement e y r (inl (bad, p)) q s = subst (λ x. Gives time file x) (sym s) (inr (_, ap board_verdict (q ∙ err_same _ e p), from _ (inl (bad, refl))))
-    gives_disagreement e y r (inr (b, inl (bad, p))) q s = subst (λ x. Gives time file x) (sym s) (inr (_, ap board_verdict (q ∙ err_same _ e p), from _ (inr (b, inl (bad, refl)))))
-    gives_disagreement e y r (inr (b, inr (c, inl (bad, p)))) q s = subst (λ x. Gives time file x) (sym s) (inr (_, ap board_verdict (q ∙ err_same _ e p), from _ (inr (b, inr (c, inl (bad, refl))))))
-    gives_disagreement e y r (inr (b, inr (c, inr (w, p)))) q s = absurd (ok_err tt e (sym p))
+    pub disagreement : (e : BoardFault) → Agreed h d.sheet.plan (Err e) → FaultGiven e
+    disagreement e (inl (bad, p)) = inr (_, ap board_verdict (err_same _ e p), from _ (inl (bad, refl)))
+    disagreement e (inr (b, inl (bad, p))) = inr (_, ap board_verdict (err_same _ e p), from _ (inr (b, inl (bad, refl))))
+    disagreement e (inr (b, inr (c, inl (bad, p)))) = inr (_, ap board_verdict (err_same _ e p), from _ (inr (b, inr (c, inl (bad, refl)))))
+    disagreement e (inr (b, inr (c, inr (w, p)))) = absurd (ok_err tt e (sym p))
 
     pub gives_board : (n : Netlist C) → Agreed h d.sheet.plan (Ok tt) → reading n ≡ d → Gives time file (Ok n)
     gives_board n (inl (bad, p)) e = absurd (ok_err tt _ p)

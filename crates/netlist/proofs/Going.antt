@@ -27,10 +27,10 @@ pub record Sofar {C : Type 0} (time : Time C) (here there : Place C) : Type 0 wh
   pub open_now : there.drawn.current ≡ here.drawn.current
   pub no_more : length there.lines.rest.now ≤ length here.lines.rest.now
 
--- the `?` hands on a fault that stops the reader
-pub hands_on : {C T : Type 0} (time : Time C) (here : Place C) (P : T → Type 0) (e : BlockFault) (r : Result T BlockFault) → IsErrAnd r (λ y. y ≡ e) → Stops time here e → MatchResult r P (λ y. Stops time here y)
-hands_on time here P e (Ok x) h stop = absurd h
-hands_on time here P e (Err y) h stop = subst (Stops time here) (sym h) stop
+-- the `?` hands a fault on
+pub hands_on : {T E : Type 0} (P : T → Type 0) (Q : E → Type 0) (e : E) (r : Result T E) → IsErrAnd r (λ y. y ≡ e) → Q e → MatchResult r P Q
+hands_on P Q e (Ok x) h q = absurd h
+hands_on P Q e (Err y) h q = subst Q (sym h) q
 
 -- when the board is closed, reading stops
 pub closed_here : {C : Type 0} (time : Time C) (pieces : List (List ℕ)) (n bytes : ℕ) (s : Sheet (Catalogue C)) → Closed s → Goes time pieces n bytes s (Ok (record { sheet = s; bytes = bytes }))
@@ -49,7 +49,7 @@ module _ {C : Type 0} (time : Time C) (s : Sheet (Catalogue C)) (open_now : Clos
   stops line (next ∷ more) n bytes v some h = inr (open_now, inl (v, h, refl))
 
   -- a line that is carried out
-  goes_on : (line : List ℕ) (more : List (List ℕ)) (n bytes : ℕ) (t : Sheet (Catalogue C)) (out : Result (Reading C) Verdict) → 0 < length more → LineGives time line n s (Ok t) →
+  pub goes_on : (line : List ℕ) (more : List (List ℕ)) (n bytes : ℕ) (t : Sheet (Catalogue C)) (out : Result (Reading C) Verdict) → 0 < length more → LineGives time line n s (Ok t) →
       Goes time more (n + 1) (bytes + (length line + 1)) t out → Goes time (line ∷ more) n bytes s out
   goes_on line [] n bytes t out some h g = absurd (omega arith)
   goes_on line (next ∷ more) n bytes t out some h g = inr (open_now, inr (t, h, g))

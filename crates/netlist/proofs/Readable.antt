@@ -1,5 +1,5 @@
 -- A file that writes a drawing is accepted.
-use Rattle.std.proofs.Common.{◌≡◌, ℕ, ◌+◌, ◌<◌, ◌≤◌, List, [], ◌∷◌, ◌++◌, length, Some, None, Ok, Option, Result, sym, refl, ap, ◌∙◌, subst, inl, inr, ⊎_elim, arith}
+use Rattle.std.proofs.Common.{◌≡◌, ℕ, ◌+◌, ◌<◌, ◌≤◌, List, [], ◌∷◌, ◌++◌, length, Some, None, Ok, Option, sym, refl, ap, ◌∙◌, subst, inl, inr, ⊎_elim, arith}
 use Rattle.std.specs.List.{join_with_byte}
 use Rattle.std.proofs.lemmas.List.{append_assoc, length-append, length_push}
 use Rattle.std.proofs.lemmas.Bool.{cases_lt}
@@ -12,15 +12,15 @@ use Rattle.drawing.specs.declared.ends.Site.{Site}
 use Rattle.drawing.proofs.Added.{passed}
 use Rattle.grammar.specs.Pieces.{split}
 use Rattle.grammar.specs.Statements.{InRange, HeaderInRange, written, header_fields}
-use Rattle.grammar.specs.declared.fault.Verdict.{Verdict}
 use Rattle.grammar.specs.declared.statement.Statement.{Statement}
 use Rattle.grammar.specs.declared.statement.Statement.TheVariants.{Open, Part, Wire, Close}
 use Rattle.grammar.proofs.Asking.{ok_err}
 use Rattle.grammar.proofs.Rejoining.{Free, split_line, split_some}
 use Rattle.grammar.proofs.Written.{item_written, board_written, header_written, written_free, header_free}
-use Rattle.netlist.specs.Drawings.{Takes, LineSays, LineGives}
+use Rattle.netlist.specs.Drawings.{Takes, LineSays}
 use Rattle.netlist.specs.Files.{Reading, Closed, Goes, Agrees, LinesGive, FileGives}
 use Rattle.netlist.specs.Netlists.{Draws, lines_of, counts_of, Writes}
+use Rattle.netlist.proofs.Going.{closed_here, goes_on}
 use Rattle.netlist.proofs.Taken.{none_some, placed_ok}
 
 -- a closed board has no place for a block
@@ -90,23 +90,11 @@ module _ {C : Type 0} (time : Time C) where
   draws_few [] s t few h = subst Few (sym h) few
   draws_few (st ∷ more) s t few h = draws_few more h.1.0 t (takes_few st s h.1.0 few h.1.1) h.1.2
 
-  -- reading stops where the board is closed
-  goes_stops : (pieces : List (List ℕ)) (n bytes : ℕ) (s : Sheet (Catalogue C)) (out : Result (Reading C) Verdict) → Closed s → out ≡ Ok (record { sheet = s; bytes = bytes }) → Goes time pieces n bytes s out
-  goes_stops [] n bytes s out closed e = inl (closed, e)
-  goes_stops (last ∷ []) n bytes s out closed e = inl (closed, e)
-  goes_stops (line ∷ next ∷ more) n bytes s out closed e = inl (closed, e)
-
-  -- a line that is accepted, and has a line end
-  goes_line : (line : List ℕ) (pieces : List (List ℕ)) (n bytes : ℕ) (s t : Sheet (Catalogue C)) (out : Result (Reading C) Verdict) → 0 < length pieces →
-      (Closed s → ⊥) → LineGives time line n s (Ok t) → Goes time pieces (n + 1) (bytes + (length line + 1)) t out → Goes time (line ∷ pieces) n bytes s out
-  goes_line line [] n bytes s t out some not_yet gives goes = absurd (omega arith)
-  goes_line line (next ∷ more) n bytes s t out some not_yet gives goes = inr (not_yet, inr (t, gives, goes))
-
   pub draws_reads : (drawing : List Statement) (rest : List ℕ) (n bytes : ℕ) (s : Sheet (Catalogue C)) (d : Reading C) → Draws time drawing s d.sheet → Closed d.sheet →
       d.bytes ≡ bytes + length (lines_of drawing) → Goes time (split 10 (lines_of drawing ++ rest)) n bytes s (Ok d)
   draws_reads [] rest n bytes s d drawn closed counted =
       let count : d.bytes ≡ bytes = omega arith in
-      goes_stops (split 10 rest) n bytes s (Ok d) (subst Closed drawn closed) (ap Ok (λ i. record { sheet = drawn i; bytes = count i }))
+      subst (λ out. Goes time (split 10 rest) n bytes s out) (ap Ok (λ i. record { sheet = sym drawn i; bytes = sym count i })) (closed_here time (split 10 rest) n bytes s (subst Closed drawn closed))
   draws_reads (st ∷ more) rest n bytes s d drawn closed counted =
       let line = written st in
       let lines = lines_of more in
@@ -114,7 +102,7 @@ module _ {C : Type 0} (time : Time C) where
       let takes = drawn.1.1 in
       let count : d.bytes ≡ bytes + (length line + 1) + length lines = omega (arith, length-append line (10 ∷ lines)) in
       subst (λ pieces. Goes time pieces n bytes s (Ok d)) (sym (split_front line lines rest (written_free st drawn.0)))
-      (goes_line line (split 10 (lines ++ rest)) n bytes s t (Ok d) (split_some 10 (lines ++ rest)) (takes_open st s t takes)
+      (goes_on time s (takes_open st s t takes) line (split 10 (lines ++ rest)) n bytes t (Ok d) (split_some 10 (lines ++ rest))
       (Ok st, takes_says st s t n drawn.0 takes, inl (t, takes, refl))
       (draws_reads more rest (n + 1) (bytes + (length line + 1)) t d drawn.1.2 closed count))
 

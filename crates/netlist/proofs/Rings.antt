@@ -41,13 +41,13 @@ module _ {C : Type 0} where
     stops_before there e c (inr h) = inr (h.0, h.1, c _ h.2)
 
     -- the block goes on after an item, or ends
-    pub goes_on : (there : Place C) (goes : ControlFlow Unit Unit) (b : Bool) → b ≡ is_some (continue_value goes) → b ≡ true → Read time here there (after_item here.drawn goes) → Read time here there here.drawn.current
-    goes_on there (Continue x) b e test r = r
-    goes_on there (Break x) b e test r = cc
+    pub block_goes_on : (there : Place C) (goes : ControlFlow Unit Unit) (b : Bool) → b ≡ is_some (continue_value goes) → b ≡ true → Read time here there (after_item here.drawn goes) → Read time here there here.drawn.current
+    block_goes_on there (Continue x) b e test r = r
+    block_goes_on there (Break x) b e test r = cc
 
-    pub ends : (there : Place C) (goes : ControlFlow Unit Unit) (b : Bool) → b ≡ is_some (continue_value goes) → b ≡ false → Read time here there (after_item here.drawn goes) → Read time here there (around here.drawn here.drawn.current)
-    ends there (Continue x) b e test r = cc
-    ends there (Break x) b e test r = r
+    pub block_ends : (there : Place C) (goes : ControlFlow Unit Unit) (b : Bool) → b ≡ is_some (continue_value goes) → b ≡ false → Read time here there (after_item here.drawn goes) → Read time here there (around here.drawn here.drawn.current)
+    block_ends there (Continue x) b e test r = cc
+    block_ends there (Break x) b e test r = r
 
     pub sofar_more : (there end : Place C) → Sofar time here there → Read time there end there.drawn.current → Sofar time here end
     sofar_more there end h r =

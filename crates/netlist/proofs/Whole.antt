@@ -1,5 +1,5 @@
 -- A whole file: its first line, and its board.
-use Rattle.std.proofs.Common.{◌≡◌, ℕ, suc, ◌+◌, ◌-◌, ◌<◌, ◌⊎◌, List, [], ◌∷◌, length, get_or, Some, Ok, Err, Result, IsErrAnd, MatchResult, sym, refl, ap, ◌∙◌, subst, inl, inr, ⊎_elim, arith}
+use Rattle.std.proofs.Common.{◌≡◌, ℕ, suc, ◌+◌, ◌-◌, ◌<◌, List, [], ◌∷◌, length, get_or, Ok, Err, Result, IsErrAnd, MatchResult, sym, refl, ap, ◌∙◌, subst, inl, inr, ⊎_elim, arith}
 use Rattle.std.proofs.lemmas.Bool.{cases_eq}
 use Rattle.clock.specs.Time.{Time}
 use Rattle.drawing.specs.Calls.{sheet, blank}
@@ -19,10 +19,9 @@ use Rattle.netlist.specs.declared.blocks.Reader.{Reader}
 use Rattle.netlist.specs.declared.fault.BlockFault.{BlockFault}
 use Rattle.netlist.specs.declared.fault.BlockFault.TheVariants as block
 use Rattle.netlist.specs.declared.lines.Lines.{Lines}
-use Rattle.netlist.specs.Files.{Reading, Goes, Sized, LinesGive, FileGives}
-use Rattle.netlist.specs.Reads.{HeaderRead, BoardRead, AllRead}
+use Rattle.netlist.specs.Files.{Reading, Goes, Sized, LinesGive}
+use Rattle.netlist.specs.Reads.{HeaderRead, BoardRead, FileStops, AllRead}
 use Rattle.netlist.specs.Steps.{Begins, Line, undrawn, FromHere}
-use Rattle.netlist.specs.Verdicts.{block_verdict}
 use Rattle.netlist.proofs.Going.{closed_here}
 use Rattle.netlist.proofs.Taken.{ok_same}
 
@@ -62,19 +61,10 @@ never_missing file before last b e =
     let more = ends_more 10 file b.sized.some b.sized.ended in
     omega (arith, ap (λ t. length (split 10 t)) b.rest, ap length e)
 
--- a fault and the verdict that the file gives, or want of memory
-abbrev pub Refused : {C : Type 0} → Time C → List ℕ → BlockFault → Type 0
-Refused time file e = (e ≡ block.Memory) ⊎ ((v : Verdict) × (block_verdict e ≡ Some v) × FileGives time file (Err v))
-
 module _ {C : Type 0} (time : Time C) (file : List ℕ) where
-  -- the `?` hands on a fault that the file has
-  pub hands_on_refused : {T : Type 0} (P : T → Type 0) (e : BlockFault) (r : Result T BlockFault) → IsErrAnd r (λ y. y ≡ e) → Refused time file e → MatchResult r P (λ y. Refused time file y)
-  hands_on_refused P e (Ok x) h refused = absurd h
-  hands_on_refused P e (Err y) h refused = subst (Refused time file) (sym h) refused
-
   -- the file has no size that is read
   pub size_stops : (r : Result Lines TextFault) (e : LineFault) → MatchResult r (λ lines. Begins file lines) (λ f. (Sized file → ⊥) × (f ≡ BadSize)) →
-      MatchResult r (λ lines. ◌≡◌ {A = Result Lines LineFault} (Err e) (Ok lines)) (λ f. IsErrAnd {T = Lines} (Err e) (λ y. y ≡ Text f)) → Refused time file (block.Line e)
+      MatchResult r (λ lines. ◌≡◌ {A = Result Lines LineFault} (Err e) (Ok lines)) (λ f. IsErrAnd {T = Lines} (Err e) (λ y. y ≡ Text f)) → FileStops time file (block.Line e)
   size_stops (Ok lines) e h c = absurd (ok_err lines e (sym c))
   size_stops (Err f) e (bad, is) c = inr (line_verdict e, refl, inl (bad, ap (λ x. Err (line_verdict x)) (c ∙ ap Text is)))
 
@@ -84,7 +74,7 @@ module _ {C : Type 0} (time : Time C) (file : List ℕ) where
   begins (Err f) lines h c = absurd c
 
   module _ (before after : Lines) (b : Begins file before) where
-    pub header_stops : (e : LineFault) → HeaderRead before after (Err e) → Refused time file (block.Line e)
+    pub header_stops : (e : LineFault) → HeaderRead before after (Err e) → FileStops time file (block.Line e)
     header_stops e (inl (line, l, h)) =
         let f = first_line file before after line b l in
         let at_one = subst (λ n. HeaderLine line n (Err (line_verdict e))) b.number h in
@@ -102,7 +92,7 @@ module _ {C : Type 0} (time : Time C) (file : List ℕ) where
         let at_number = subst (λ n. Goes time (split 10 after.rest.now) n after.taken blank out) f.number g in
         subst (λ k. Goes time (split 10 after.rest.now) 2 k blank out) f.taken at_number
 
-    pub board_stops : (h : Header) (e : BlockFault) → HeaderRead before after (Ok h) → BoardRead time after (Err e) → Refused time file e
+    pub board_stops : (h : Header) (e : BlockFault) → HeaderRead before after (Ok h) → BoardRead time after (Err e) → FileStops time file e
     board_stops h e r (inl m) = inl m
     board_stops h e r (inr (v, k, g)) =
         let said = header_said h r in

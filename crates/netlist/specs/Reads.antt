@@ -39,12 +39,16 @@ HeaderRead before after r =
 abbrev pub BoardRead : {C : Type 0} → Time C → Lines → Result (Reader C) BlockFault → Type 0
 BoardRead time lines r = MatchResult r (λ end. Closed (sheet end.drawing) × Continues time (undrawn lines) (place end)) (λ e. Stops time (undrawn lines) e)
 
+-- the file gives a verdict, or memory lacks
+abbrev pub FileStops : {C : Type 0} → Time C → List ℕ → BlockFault → Type 0
+FileStops time file e = (e ≡ Memory) ⊎ ((v : Verdict) × (block_verdict e ≡ Some v) × FileGives time file (Err v))
+
 -- the first line and the board are read: what the file gives is left to the counts of the first line
 abbrev pub AllRead : {C : Type 0} → Time C → List ℕ → Result (Drawn C) BlockFault → Type 0
 AllRead {C} time file r =
     MatchResult r
     (λ d. Closed (sheet d.drawing) × ((out : Result (Reading C) Verdict) → Agrees d.header (record { sheet = sheet d.drawing; bytes = d.bytes }) out → FileGives time file out))
-    (λ e. (e ≡ Memory) ⊎ ((v : Verdict) × (block_verdict e ≡ Some v) × FileGives time file (Err v)))
+    (λ e. FileStops time file e)
 
 -- the counts of the first line are asked about in their order
 abbrev pub Agreed : Header → Lists → Result Unit BoardFault → Type 0

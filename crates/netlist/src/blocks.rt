@@ -64,7 +64,7 @@ fn start_of<C: Clock>(kind: PartKind) -> Catalogue<C>
 }
 
 // What a line says: outside the board, or in a block.
-fn said(current: Option<usize>, line: &[u8], number: usize) -> Result<Statement, LineFault>
+fn statement_of(current: Option<usize>, line: &[u8], number: usize) -> Result<Statement, LineFault>
     ensures asks_in_order { LineSays current line.now number (judged line_verdict result) }
 {
     match current {
@@ -120,7 +120,7 @@ impl<C: Clock> Reader<'_, C> {
     {
         let number = self.lines.number;
         let line = self.lines.next_line()?;
-        let statement = said(self.drawing.current, line, number)?;
+        let statement = statement_of(self.drawing.current, line, number)?;
         apply(&mut self.drawing, statement, number)?;
         Ok(statement)
     }

@@ -7,6 +7,7 @@ use part::generator::Gen;
 use part::line::Line;
 use std::test::Fail;
 
+// kept: blocks and components of the board derive no equality
 fn is_same_block(a: &Block, b: &Block) -> bool {
     a.name == b.name
         && a.parent == b.parent

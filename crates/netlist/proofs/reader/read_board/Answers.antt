@@ -1,10 +1,11 @@
 use Rattle.std.proofs.Common.{Ok}
-use Rattle.std.proofs.lemmas.Result.{err_from_is_err_and}
 use Rattle.drawing.specs.Calls.{sheet}
+use Rattle.netlist.specs.declared.fault.BoardFault.TheVariants.{Block}
 use Rattle.netlist.specs.declared.reader.Netlist.{Netlist}
 use Rattle.netlist.specs.Files.{Reading}
 use Rattle.netlist.specs.Reads.{Gives}
-use Rattle.netlist.proofs.Exactly.{accepts_only, accepts_every, refuses, one_outcome, starts_sound, gives_fault, gives_disagreement, gives_board, finishes, finished}
+use Rattle.netlist.proofs.Exactly.{accepts_only, accepts_every, refuses, one_outcome, starts_sound, FaultGiven, block_fault, disagreement, gives_board, finishes, finished}
+use Rattle.netlist.proofs.Going.{hands_on}
 use Rattle.netlist.proofs.reader.read_board.Goals as goal
 
 pub returns-in_err-drawn : goal.returns-in_err-drawn
@@ -13,8 +14,8 @@ returns-in_err-drawn g c =
     let laws = g.met.C.Clock.lawful in
     let file = c.args.file.now in
     let r = c.from_residual.result in
-    let p = err_from_is_err_and r c.from_residual.ensures.1 in
-    let gives : Gives time file r = gives_fault time file c.in_err-drawn.field-0.0 p.0 r c.in_err-drawn.ensures.reads_or_refuses p.2 p.1 in
+    let e = c.in_err-drawn.field-0.0 in
+    let gives : Gives time file r = hands_on _ (FaultGiven time file) (Block e) r c.from_residual.ensures.1 (block_fault time file e c.in_err-drawn.ensures.reads_or_refuses) in
     record {
       gives_what_the_file_gives = gives;
       accepts_only_written_boards = accepts_only time file r gives;
@@ -30,10 +31,10 @@ returns-in_err-agrees g c =
     let laws = g.met.C.Clock.lawful in
     let file = c.args.file.now in
     let r = c.from_residual-in_err-agrees.result in
-    let p = err_from_is_err_and r c.from_residual-in_err-agrees.ensures.1 in
+    let e = c.in_err-agrees.field-0.0 in
     let d : Reading g.row.C.Denot = record { sheet = sheet c.in_ok-drawn.drawn.drawing; bytes = c.in_ok-drawn.drawn.bytes } in
     let read = c.in_ok-drawn.ensures.reads_or_refuses in
-    let gives : Gives time file r = gives_disagreement time file c.in_ok-drawn.drawn.header d read.1 c.in_err-agrees.field-0.0 p.0 r c.in_err-agrees.ensures.asks_in_order p.2 p.1 in
+    let gives : Gives time file r = hands_on _ (FaultGiven time file) e r c.from_residual-in_err-agrees.ensures.1 (disagreement time file c.in_ok-drawn.drawn.header d read.1 e c.in_err-agrees.ensures.asks_in_order) in
     record {
       gives_what_the_file_gives = gives;
       accepts_only_written_boards = accepts_only time file r gives;

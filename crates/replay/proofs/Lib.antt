@@ -1,3 +1,4 @@
+mod Alike
 pub mod Lending
 pub mod Listing
 pub mod Making

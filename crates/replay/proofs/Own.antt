@@ -15,10 +15,10 @@ use Rattle.session.specs.declared.places.Event.{Event}
 use Rattle.session.specs.declared.answers.Refusal.{Refusal}
 use Rattle.session.specs.declared.answers.Firing.{Firing}
 use Rattle.session.specs.declared.answers.Stop.{Stop}
-use Rattle.session.proofs.Decisions.{dues_own, output_own, event_own, ready_same, halts_same}
 use Rattle.session.proofs.Imminence.{due_inside}
 use Rattle.session.proofs.Running.{ready_inside}
 use Rattle.replay.specs.Replays.{own}
+use Rattle.replay.proofs.Alike.{dues_own, output_own, event_own, ready_same, halts_same}
 
 -- a question asked of another memory
 pub asks_map : {T S U : Type 0} {bad bad' on off Z : Type 0} (n : ℕ) (before after : S) (before' after' : U) (r : Result T Refusal) →

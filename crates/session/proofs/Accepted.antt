@@ -1,12 +1,11 @@
 -- What makes up an accepted call, and what follows from one.
-use Rattle.std.proofs.Common.{◌≡◌, ℕ, ◌+◌, ◌<◌, ◌≤◌, Bool, true, false, not, List, [], ◌∷◌, ◌++◌, map, length, get_or, take, drop, set, Ok, Err, MatchBool, MatchOption, Some, None, Option, sym, refl, ap, ◌∙◌, subst, inl, inr, ⊎_elim, arith}
+use Rattle.std.proofs.Common.{◌≡◌, ℕ, ◌+◌, ◌<◌, ◌≤◌, true, false, List, [], ◌∷◌, ◌++◌, map, length, get_or, take, drop, set, Ok, Err, Some, None, Option, sym, refl, ap, ◌∙◌, subst, inl, inr, ⊎_elim, arith}
 use Rattle.std.proofs.lemmas.List.{map_more, length-map, length-take-le, set_at, append_assoc, drop_more}
 use Rattle.std.proofs.lemmas.Bool.{both_ways, cond-true, cond-false, eq-eqb, ne_eqb, cases_lt}
 use Rattle.std.proofs.Math.Nat.{sub-zero}
 use Rattle.std.specs.Option.{option_map}
 use Rattle.std.specs.Slice.{IsGetRangeResult}
 use denote.Ref.{Bor}
-use Rattle.clock.specs.Time.{Time, Laws}
 use Rattle.coupling.specs.Wiring.{reached}
 use Rattle.coupling.specs.declared.coupling.Source.{Source}
 use Rattle.coupling.specs.declared.coupling.Source.TheVariants as source
@@ -24,20 +23,6 @@ use Rattle.session.proofs.Imminence.{none_some}
 pub part_got : {X : Type 0} (xs : List X) (n : ℕ) (r : Option (Bor (List X))) (x : Bor (List X)) → IsGetRangeResult xs 0 n r → r ≡ Some x → (x.now ≡ take n xs) × (n ≤ length xs)
 part_got xs n None x h e = absurd cc
 part_got xs n (Some y) x h e = let same : y ≡ x = cc in (sym (ap (λ z. z.now) same) ∙ h.0.2 ∙ ap (λ k. take k xs) (sub-zero n), h.0.1)
-
-pub part_missing : {X : Type 0} (xs : List X) (n : ℕ) (r : Option (Bor (List X))) → IsGetRangeResult xs 0 n r → r ≡ None → length xs < n
-part_missing xs n None h e = omega (arith, h.0)
-part_missing xs n (Some y) h e = absurd cc
-
--- some part is due before m exactly if the imminent one is
-pub due_before : {C : Type 0} (time : Time C) → Laws time → (ds : List (Option C)) (m : C) (o : Option (Due C)) (b : Bool) → First time ds o →
-    MatchOption o (b ≡ false) (λ d. b ≡ not (time.leq m d.moment)) → MatchBool b (DueBefore time ds m) (DueBefore time ds m → ⊥)
-due_before time laws ds m None b h e = subst (λ x. MatchBool x (DueBefore time ds m) (DueBefore time ds m → ⊥)) (sym e) (λ k. none_some k.1 _ (h k.0) k.2)
-due_before time laws ds m (Some d) b h e = subst (λ x. MatchBool x (DueBefore time ds m) (DueBefore time ds m → ⊥)) (sym e) (known (time.leq m d.moment) refl)
-  where
-    known : (l : Bool) → time.leq m d.moment ≡ l → MatchBool (not l) (DueBefore time ds m) (DueBefore time ds m → ⊥)
-    known false e = (d.part, d.moment, h.is_due, e)
-    known true e = λ k. both_ways _ k.3 (laws.transitive m d.moment k.1 e (h.earliest k.0 k.1 k.2))
 
 -- a place more is opened
 pub start_more : {P X : Type 0} (f : P → X) (starts : List P) (places now : List X) (i : ℕ) (p : P) → i < length starts → i < length places → p ≡ get_or starts i p →
@@ -60,9 +45,6 @@ module _ {P C : Type 0} (M : Model P C) where
   pub next_done : (places : List (Place P C)) (o : Option (Due C)) (r : Option C) → (Few M.wiring places → ⊥) → First M.time (dues M places) o → r ≡ option_map (λ d. d.moment) o → Next M places (Ok r)
   next_done places None r few f is = inr (few, inl (f, ap Ok is))
   next_done places (Some d) r few f is = inr (few, inr (d.moment, d.part, f, ap Ok is))
-
-  pub step_idle : (before : Memory P C) → (Few M.wiring before.places → ⊥) → NoneDue (dues M before.places) → Steps M before before (Err Rattle.session.specs.declared.answers.Refusal.TheVariants.NothingDue)
-  step_idle before few none = inr (few, inl (none, (refl, refl)))
 
   some_due : (ds : List (Option C)) (m : C) (i : ℕ) → Imminent M.time ds m i → NoneDue ds → ⊥
   some_due ds m i h none = none_some m _ (none i) h.is_due

@@ -1,5 +1,5 @@
 -- The imminent part, found one part after another; and there is only one.
-use Rattle.std.proofs.Common.{◌≡◌, ℕ, ◌+◌, ◌<◌, true, false, ◌⊎◌, List, [], ◌∷◌, ◌++◌, map, length, get_or, take, IfSome, Some, None, Option, sym, refl, ap, ◌∙◌, subst, inl, inr, ⊎_elim, arith}
+use Rattle.std.proofs.Common.{◌≡◌, ℕ, ◌+◌, ◌<◌, true, false, ◌⊎◌, List, [], ◌∷◌, ◌++◌, map, length, get_or, take, Some, None, Option, sym, refl, ap, ◌∙◌, subst, inl, inr, ⊎_elim, arith}
 use Rattle.std.proofs.lemmas.List.{get_or_append_left, get_or-append_right, get_or_past, get_or_push, length-map, length-take-le, map_more}
 use Rattle.std.proofs.lemmas.Option.{same_Some}
 use Rattle.std.proofs.lemmas.Bool.{cases_order, cases_lt, cases_Bool, both_ways, cond-true, cond-false}
@@ -94,7 +94,3 @@ first_next time laws kind places i p x best r within read is came h =
     map_more f places i p within ∙ ap (λ y. map f (take i places) ++ y ∷ []) (ap f (sym read) ∙ sym is) in
     subst (λ l. First time l r) (sym more)
     (subst (First time (map f (take i places) ++ x ∷ [])) (ap (λ n. sooner time best n x) long ∙ sym came) (first_more time laws (map f (take i places)) best x h))
-
-pub first_inside : {C : Type 0} (time : Time C) (ds : List (Option C)) (o : Option (Due C)) → First time ds o → IfSome o (λ d. d.part < length ds)
-first_inside time ds None h = tt
-first_inside time ds (Some d) h = due_inside ds d.part d.moment h.is_due

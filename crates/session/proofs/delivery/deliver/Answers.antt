@@ -1,6 +1,5 @@
-use Rattle.std.proofs.Common.{◌≡◌, ◌<◌, length, ap, ◌∙◌, arith}
+use Rattle.std.proofs.Common.{◌<◌, length, arith}
 use Rattle.coupling.specs.Rows.{set_of}
-use Rattle.session.specs.Machine.{delivered}
 use Rattle.session.proofs.Deliveries.{delivered_more}
 use Rattle.session.proofs.delivery.deliver.Goals as goal
 
@@ -8,10 +7,3 @@ pub parts-preserved : goal.parts-preserved
 parts-preserved g c =
     let within : c.parts.part < length c.args.places.now = omega arith in
     delivered_more g.C.Clock.time g.P.Part.kind c.args.moment c.args.value c.parts.part (set_of c.args.row.now) c.args.places.now c.parts.places _ _ within c.parts.invariant c.given.ensures.takes_the_input
-
-pub returns : goal.returns
-returns g c =
-    let all : c.parts.part ≡ length c.args.places.now = omega arith in
-    record {
-      gives_each_its_set = c.parts.invariant ∙ ap (λ n. delivered g.C.Clock.time g.P.Part.kind c.args.moment c.args.value n (set_of c.args.row.now) c.args.places.now) all;
-    }

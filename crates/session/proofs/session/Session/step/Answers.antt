@@ -1,25 +1,9 @@
-use Rattle.std.proofs.Common.{◌≡◌, map, take, Err, sym, refl, ap, ◌∙◌, subst, arith}
-use Rattle.std.proofs.lemmas.Result.{err_from_is_err_and}
-use Rattle.session.specs.Machine.{model, memory, due, dues, First, Imminent, NoneDue}
+use Rattle.std.proofs.Common.{map, take, sym, refl, ap, ◌∙◌, subst, arith}
+use Rattle.session.specs.Machine.{model, memory, due, dues, First, Imminent}
 use Rattle.session.specs.Calls.{Few, told}
-use Rattle.session.specs.declared.answers.Refusal.TheVariants as refusal
-use Rattle.session.proofs.Accepted.{step_idle, step_late, step_done, fired_alone}
-use Rattle.session.proofs.Outcomes.{no_value, steps_only}
+use Rattle.session.proofs.Accepted.{step_late, step_done, fired_alone}
+use Rattle.session.proofs.Outcomes.{steps_only}
 use Rattle.session.proofs.session.Session.step.Goals as goal
-
-pub returns-in_err-due : goal.returns-in_err-due
-returns-in_err-due g c =
-    let M = model g.C.Clock.time g.P.Part.kind (g.K.Coupling.wiring c.args.coupling.now) in
-    let places = c.args.places.now in
-    let before = memory places c.args.self.now.now in
-    let few : Few M.wiring places → ⊥ = λ f. omega (arith, f, c.parts-parts.ensures.is_the_count) in
-    let none : NoneDue (dues M places) =
-    subst (λ n. NoneDue (map (due M.time M.kind) (take n places))) c.parts-parts.ensures.is_the_count
-    (subst (First M.time (map (due M.time M.kind) (take c.parts-parts.result places))) c.in_err-due.ensures.ok_part c.imminent.ensures.is_imminent) in
-    let p = err_from_is_err_and c.from_residual.result c.from_residual.ensures.1 in
-    let is : c.from_residual.result ≡ Err refusal.NothingDue = p.1 ∙ ap Err (p.2 ∙ no_value _ _ _ c.in_err-due.ensures.value c.in_err-due.ensures.ok_part) in
-    let h = step_idle M before few none in
-    rw is (record { fires_the_imminent_part = h; refusal_leaves_memory = refl; changes_only_what_fires_or_is_reached = refl; has_one_outcome = steps_only M g.met.C.Clock.lawful before _ _ h })
 
 pub returns-then-not-within_ceiling : goal.returns-then-not-within_ceiling
 returns-then-not-within_ceiling g c =

@@ -15,6 +15,7 @@ pub enum BoardFault {
     Wire(WireFault),
 }
 
+// kept: both written by hand, since a derived `From` promises nothing to the clauses below
 impl From<BuildFault> for BoardFault {
     ghost from_gives = { λ e r. r ≡ Build e };
 

@@ -6,7 +6,6 @@ use part::catalogue::Catalogue;
 use session::answers::{Firing, Ran, Refusal};
 use session::places::{Event, Place};
 use std::process::Abort;
-use std::test::Fail;
 
 // A number is out of range.
 #[derive(Clone, Copy, Debug)]
@@ -41,18 +40,8 @@ pub fn blank() -> Event<Dense> {
 }
 
 // The call was refused, with this number.
-pub fn refused<T: Drop>(
-    rt: &impl Abort,
-    answer: Result<T, Refusal>,
-    number: u8,
-) -> Result<(), Fail> {
-    match answer {
-        Ok(_) => Err(Fail::new("accepted")),
-        Err(refusal) => {
-            assert_eq!(rt; refusal.number(), number);
-            Ok(())
-        },
-    }
+pub fn refused<T: Drop>(rt: &impl Abort, answer: Result<T, Refusal>, number: u8) {
+    assert_eq!(rt; answer.err().map(Refusal::number), Some(number));
 }
 
 // The run took so many steps, wrote so many events, and stopped for the reason of this number.

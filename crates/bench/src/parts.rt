@@ -19,9 +19,12 @@ fn a_part_needs_time(rt: HostRuntime) {
 #[test]
 fn a_generator_starts_with_a_whole_period(rt: HostRuntime) -> Result<(), Fail> {
     let part = Gen::<Dense>::new(65535, 7, 1).ok_or(Beyond)?;
-    assert_eq!(rt; part.period, 65535);
-    assert_eq!(rt; part.value, 7);
-    assert_eq!(rt; part.step, 1);
-    assert_eq!(rt; part.left, at(65535, 0));
+    let expected = Gen {
+        period: 65535,
+        value: 7,
+        step: 1,
+        left: at(65535, 0),
+    };
+    assert_eq!(rt; part, expected);
     Ok(())
 }

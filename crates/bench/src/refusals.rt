@@ -17,9 +17,9 @@ fn an_input_needs_pins_of_the_board(rt: HostRuntime) -> Result<(), Fail> {
     let mut places = [spare()];
     let mut session = Session::new();
     session.open(&board, &mut places, &[line(4)])?;
-    refused(&rt, session.put(&board, &mut places, at(4, 0), 0, 7), 13)?;
-    refused(&rt, session.put(&board, &mut places, at(4, 0), 2, 7), 13)?;
-    refused(&rt, session.put(&board, &mut places, at(4, 0), 3, 7), 13)?;
+    refused(&rt, session.put(&board, &mut places, at(4, 0), 0, 7), 13);
+    refused(&rt, session.put(&board, &mut places, at(4, 0), 2, 7), 13);
+    refused(&rt, session.put(&board, &mut places, at(4, 0), 3, 7), 13);
     assert_eq!(rt; session.now, at(0, 0));
     assert_eq!(rt; next(&board, &places)?, None);
     Ok(())
@@ -32,8 +32,8 @@ fn an_input_comes_now_or_later(rt: HostRuntime) -> Result<(), Fail> {
     let mut session = Session::new();
     session.open(&board, &mut places, &[line(4)])?;
     session.put(&board, &mut places, at(5, 1), 1, 7)?;
-    refused(&rt, session.put(&board, &mut places, at(5, 0), 1, 9), 14)?;
-    refused(&rt, session.put(&board, &mut places, at(4, 2), 1, 9), 14)?;
+    refused(&rt, session.put(&board, &mut places, at(5, 0), 1, 9), 14);
+    refused(&rt, session.put(&board, &mut places, at(4, 2), 1, 9), 14);
     assert_eq!(rt; session.now, at(5, 1));
     session.put(&board, &mut places, at(5, 1), 1, 9)?;
     assert_eq!(rt;
@@ -52,18 +52,18 @@ fn no_moment_is_beyond_the_ceiling(rt: HostRuntime) -> Result<(), Fail> {
     session.open(&board, &mut places, &[line(4)])?;
     let late = Dense::new(4_294_967_296, 0).ok_or(Beyond)?;
     let fine = Dense::new(0, 16_777_216).ok_or(Beyond)?;
-    refused(&rt, session.put(&board, &mut places, late, 1, 7), 12)?;
-    refused(&rt, session.put(&board, &mut places, fine, 1, 7), 12)?;
+    refused(&rt, session.put(&board, &mut places, late, 1, 7), 12);
+    refused(&rt, session.put(&board, &mut places, fine, 1, 7), 12);
     refused(
         &rt,
         session.run(&board, &mut places, late, 1, &mut trace),
         12,
-    )?;
+    );
     refused(
         &rt,
         session.run(&board, &mut places, fine, 1, &mut trace),
         12,
-    )?;
+    );
     assert_eq!(rt; session.now, at(0, 0));
     assert_eq!(rt; next(&board, &places)?, None);
     Ok(())
@@ -81,7 +81,7 @@ fn nothing_fires_beyond_the_ceiling(rt: HostRuntime) -> Result<(), Fail> {
     session.open(&board, &mut places, &[part])?;
     session.put(&board, &mut places, ticks(4_294_967_295), 1, 7)?;
     assert_eq!(rt; next(&board, &places)?, Ticks::new(4_294_967_296));
-    refused(&rt, session.step(&board, &mut places), 17)?;
+    refused(&rt, session.step(&board, &mut places), 17);
     assert_eq!(rt; session.now, ticks(4_294_967_295));
     Ok(())
 }
@@ -98,7 +98,7 @@ fn a_board_without_parts_never_fires(rt: HostRuntime) -> Result<(), Fail> {
     let mut session = Session::new();
     session.open(&board, &mut places, &[])?;
     assert_eq!(rt; next(&board, &places)?, None);
-    refused(&rt, session.step(&board, &mut places), 16)?;
+    refused(&rt, session.step(&board, &mut places), 16);
     ran(
         &rt,
         session.run(&board, &mut places, at(9, 0), 1, &mut trace)?,

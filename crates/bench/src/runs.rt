@@ -137,11 +137,14 @@ fn example(rt: &impl Abort, heap: Global, trace: &mut [Event<Dense>]) -> Result<
 fn a_line_repeats_a_generator(rt: HostRuntime) -> Result<(), Fail> {
     let mut trace = [blank(); 9];
     example(&rt, rt.alloc(), &mut trace)?;
-    assert_eq!(rt; trace[0], event(at(4, 0), 1, 1, 7, 0));
-    assert_eq!(rt; trace[1], event(at(8, 0), 0, 1, 7, 1));
-    assert_eq!(rt; trace[2], event(at(8, 0), 1, 1, 8, 0));
-    assert_eq!(rt; trace[3], event(at(12, 0), 0, 1, 8, 1));
-    assert_eq!(rt; trace[4], event(at(12, 0), 1, 1, 9, 0));
+    let expected = [
+        event(at(4, 0), 1, 1, 7, 0),
+        event(at(8, 0), 0, 1, 7, 1),
+        event(at(8, 0), 1, 1, 8, 0),
+        event(at(12, 0), 0, 1, 8, 1),
+        event(at(12, 0), 1, 1, 9, 0),
+    ];
+    assert_eq!(rt; &trace[..5], expected.as_slice());
     Ok(())
 }
 
@@ -150,10 +153,7 @@ fn later_records_are_untouched(rt: HostRuntime) -> Result<(), Fail> {
     let mut trace = [blank(); 9];
     example(&rt, rt.alloc(), &mut trace)?;
     assert_ne!(rt; trace[4], blank());
-    assert_eq!(rt; trace[5], blank());
-    assert_eq!(rt; trace[6], blank());
-    assert_eq!(rt; trace[7], blank());
-    assert_eq!(rt; trace[8], blank());
+    assert_eq!(rt; &trace[5..], [blank(); 4].as_slice());
     Ok(())
 }
 
@@ -187,11 +187,14 @@ fn race(
 fn the_lower_number_fires_first(rt: HostRuntime) -> Result<(), Fail> {
     let mut trace = [blank(); 5];
     race(&rt, rt.alloc(), 2, 3, &mut trace)?;
-    assert_eq!(rt; trace[0], event(at(2, 0), 0, 1, 20, 0));
-    assert_eq!(rt; trace[1], event(at(3, 0), 1, 1, 30, 0));
-    assert_eq!(rt; trace[2], event(at(4, 0), 0, 1, 21, 0));
-    assert_eq!(rt; trace[3], event(at(6, 0), 0, 1, 22, 0));
-    assert_eq!(rt; trace[4], event(at(6, 0), 1, 1, 31, 0));
+    let expected = [
+        event(at(2, 0), 0, 1, 20, 0),
+        event(at(3, 0), 1, 1, 30, 0),
+        event(at(4, 0), 0, 1, 21, 0),
+        event(at(6, 0), 0, 1, 22, 0),
+        event(at(6, 0), 1, 1, 31, 0),
+    ];
+    assert_eq!(rt; trace, expected);
     Ok(())
 }
 
@@ -199,10 +202,13 @@ fn the_lower_number_fires_first(rt: HostRuntime) -> Result<(), Fail> {
 fn the_lower_number_fires_first_with_the_longer_period(rt: HostRuntime) -> Result<(), Fail> {
     let mut trace = [blank(); 5];
     race(&rt, rt.alloc(), 3, 2, &mut trace)?;
-    assert_eq!(rt; trace[0], event(at(2, 0), 1, 1, 30, 0));
-    assert_eq!(rt; trace[1], event(at(3, 0), 0, 1, 20, 0));
-    assert_eq!(rt; trace[2], event(at(4, 0), 1, 1, 31, 0));
-    assert_eq!(rt; trace[3], event(at(6, 0), 0, 1, 21, 0));
-    assert_eq!(rt; trace[4], event(at(6, 0), 1, 1, 32, 0));
+    let expected = [
+        event(at(2, 0), 1, 1, 30, 0),
+        event(at(3, 0), 0, 1, 20, 0),
+        event(at(4, 0), 1, 1, 31, 0),
+        event(at(6, 0), 0, 1, 21, 0),
+        event(at(6, 0), 1, 1, 32, 0),
+    ];
+    assert_eq!(rt; trace, expected);
     Ok(())
 }

@@ -22,18 +22,12 @@ pub fn line<C: Clock>(delay: u16) -> Catalogue<C>
 pub fn generator<C: Clock>(period: u16, value: u8, step: u8) -> Option<Catalogue<C>>
     ensures starts_or_refuses { MatchOption result (period ≡ 0) (λ s. s ≡ kinds.Gen (generator_starts C.Clock.time period value step)) }
 {
-    match Gen::new(period, value, step) {
-        Some(part) => Some(Catalogue::Gen(part)),
-        None => None,
-    }
+    Gen::new(period, value, step).map(Catalogue::Gen)
 }
 
 // An idle UART, or nothing where the time for a bit is 0.
 pub fn uart<C: Clock>(baud: u16) -> Option<Catalogue<C>>
     ensures starts_idle_or_refuses { MatchOption result (baud ≡ 0) (λ s. s ≡ kinds.Uart (uart_starts C.Clock.time baud)) }
 {
-    match Uart::new(baud) {
-        Some(part) => Some(Catalogue::Uart(part)),
-        None => None,
-    }
+    Uart::new(baud).map(Catalogue::Uart)
 }

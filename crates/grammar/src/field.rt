@@ -123,10 +123,12 @@ impl<'a> Fields<'a> {
         Field::Number(self.next()).number(low, high)
     }
 
+    // The number up to high.
     pub(crate) fn byte(&mut self, high: u8) -> Result<u8, LineFault>
         requires some { 0 < length (left 32 self.old.words.rest) }
         ensures reads_or_refuses { ReadsNumber 0 high self.old self.new result }
     {
+        // kept: `as`, which is proved to lose nothing; `try_from` would want an error that never comes
         Ok(self.number(0, u16::from(high))? as u8)
     }
 

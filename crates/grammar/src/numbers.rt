@@ -13,6 +13,7 @@ pub fn natural(text: &[u8]) -> Option<u64>
         return None;
     }
     let mut value = 0;
+    // kept: a loop, since a closure for `try_fold` cannot know that the sum so far is small
     'digits: for digit in text {
         if !digit.is_ascii_digit() {
             return None;

@@ -7,18 +7,8 @@ mod trouble;
 use crate::escape::decoded;
 use crate::trouble::Trouble;
 use clock::dense::Dense;
-use grammar::fault::{Layer, Verdict};
 use netlist::reader::{Netlist, read_board};
 use std::io::{BufRead, BufReader};
-
-fn layer_word(layer: Layer) -> &'static str {
-    match layer {
-        Layer::Text => "text",
-        Layer::Line => "line",
-        Layer::Block => "block",
-        Layer::Board => "board",
-    }
-}
 
 fn accepted(rt: &HostRuntime, name: &str, netlist: &Netlist<Dense>) -> Result<(), Trouble> {
     let blocks = netlist.board.plan.blocks.len();
@@ -29,22 +19,17 @@ fn accepted(rt: &HostRuntime, name: &str, netlist: &Netlist<Dense>) -> Result<()
     Ok(())
 }
 
-fn refused(rt: &HostRuntime, name: &str, verdict: Verdict) -> Result<(), Trouble> {
-    let number = verdict.number;
-    let line = verdict.line;
-    let field = verdict.field;
-    let layer = layer_word(verdict.layer);
-    println!(rt; "{name}: refused {number} line {line} field {field} {layer}")?;
-    Ok(())
-}
-
 fn try_case(rt: &HostRuntime, case: &str) -> Result<(), Trouble> {
     let (name, text) = case.split_once(' ').ok_or(Trouble::Case)?;
     let heap = rt.alloc();
     let file = decoded(heap, text.as_bytes())?;
     match read_board(file.as_slice(), heap) {
         Ok(netlist) => accepted(rt, name, &netlist),
-        Err(fault) => refused(rt, name, fault.verdict().ok_or(Trouble::Reader)?),
+        Err(fault) => {
+            let verdict = fault.verdict().ok_or(Trouble::Reader)?;
+            println!(rt; "{name}: refused {verdict}")?;
+            Ok(())
+        }
     }
 }
 

@@ -49,9 +49,7 @@ impl Moment for Ticks {
     }
 
     fn ceiling() -> Ticks {
-        Ticks {
-            count: 4_294_967_295,
-        }
+        Ticks::CEILING
     }
 }
 
@@ -61,9 +59,6 @@ impl Moment for Dense {
     }
 
     fn ceiling() -> Dense {
-        Dense {
-            tick: 4_294_967_295,
-            micro: 16_777_215,
-        }
+        Dense::CEILING
     }
 }

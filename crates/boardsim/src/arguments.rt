@@ -1,5 +1,8 @@
 // The words of the command line.
+ghost use Rattle.std.specs.Prelude.{◌≤◌, length, IfOk};
+
 use crate::trouble::Trouble;
+use grammar::word::Word;
 use script::option_word::OptionWord;
 use script::options::Settings;
 use std::alloc::Global;
@@ -7,45 +10,32 @@ use std::env;
 
 // The words after the program's name.
 pub fn words(rt: &HostRuntime, heap: Global) -> Result<Vec<String>, Trouble> {
-    let mut given = env::args(rt)?;
-    let _program = given.next();
-    let mut words = Vec::new(heap);
-    for word in given {
-        words.push(word)?;
-    }
-    Ok(words)
+    Ok(env::args(rt)?.skip(1).collect(heap)?)
 }
 
-// The settings so far, and the option whose value comes next.
+// The settings so far, and the words that are left.
 #[derive(Clone, Copy)]
 struct Reading<'a> {
     told: Settings<'a>,
-    pending: Option<OptionWord>,
+    rest: &'a [String],
 }
 
 impl<'a> Reading<'a> {
-    fn with_word(self, word: &'a [u8]) -> Result<Reading<'a>, Trouble> {
-        let told = self.told;
-        match self.pending {
-            Some(option) => match told.with(option, word) {
-                Some(told) => Ok(Reading {
-                    told,
-                    pending: None,
-                }),
-                None => Err(Trouble::Usage),
-            },
-            None => match OptionWord::named(word) {
-                Some(OptionWord::Summary) => Ok(Reading {
-                    told: told.summarized(),
-                    pending: None,
-                }),
-                Some(option) => Ok(Reading {
-                    told,
-                    pending: Some(option),
-                }),
-                None => Err(Trouble::Usage),
-            },
+    // Sets the option that a word names, to the next word that is left; a summary takes none.
+    fn with_option(self, word: &[u8]) -> Result<Reading<'a>, Trouble>
+        ensures leaves_no_more { IfOk result (λ r. length r.rest.now ≤ length self.entry.rest.now) }
+    {
+        let Reading { told, rest } = self;
+        let option = OptionWord::named(word).ok_or(Trouble::Usage)?;
+        if option == OptionWord::Summary {
+            return Ok(Reading {
+                told: told.summarized(),
+                rest,
+            });
         }
+        let (value, rest) = rest.split_first().ok_or(Trouble::Usage)?;
+        let told = told.with(option, value.as_bytes()).ok_or(Trouble::Usage)?;
+        Ok(Reading { told, rest })
     }
 }
 
@@ -53,13 +43,12 @@ impl<'a> Reading<'a> {
 pub fn settings(words: &[String]) -> Result<Settings<'_>, Trouble> {
     let mut reading = Reading {
         told: Settings::untold(),
-        pending: None,
+        rest: words,
     };
-    for word in words {
-        reading = reading.with_word(word.as_bytes())?;
+    'options: while let [word, rest @ ..] = reading.rest {
+        let told = reading.told;
+        let read = Reading { told, rest };
+        reading = read.with_option(word.as_bytes())?;
     }
-    match reading.pending {
-        None => Ok(reading.told),
-        Some(_) => Err(Trouble::Usage),
-    }
+    Ok(reading.told)
 }

@@ -1,9 +1,10 @@
 // boardsim check: whether a netlist file is accepted.
-use crate::files::bytes_of;
-use crate::show::{explain, layer_word};
+use crate::files::board_or;
+use crate::show::layer_word;
 use crate::trouble::Trouble;
 use clock::dense::Dense;
-use netlist::reader::{Netlist, read_board};
+use grammar::fault::Verdict;
+use netlist::reader::Netlist;
 use std::alloc::Global;
 
 fn accepted(rt: &HostRuntime, netlist: &Netlist<Dense>) -> Result<(), Trouble> {
@@ -15,20 +16,16 @@ fn accepted(rt: &HostRuntime, netlist: &Netlist<Dense>) -> Result<(), Trouble> {
     Ok(())
 }
 
-pub fn check(rt: &HostRuntime, heap: Global, path: &str) -> Result<(), Trouble> {
-    let file = bytes_of(rt, path)?;
-    let fault = match read_board(file.as_slice(), heap) {
-        Ok(netlist) => return accepted(rt, &netlist),
-        Err(fault) => fault,
-    };
-    let Some(verdict) = fault.verdict() else {
-        return Err(Trouble::Memory);
-    };
+fn refused(rt: &HostRuntime, verdict: Verdict) -> Result<(), Trouble> {
     let number = verdict.number;
     let line = verdict.line;
     let field = verdict.field;
     let layer = layer_word(verdict.layer);
     println!(rt; "refused {number} line {line} field {field} {layer}")?;
-    explain(rt, heap, path, file.as_slice(), verdict)?;
-    Err(Trouble::Told)
+    Ok(())
+}
+
+pub fn check(rt: &HostRuntime, heap: Global, path: &str) -> Result<(), Trouble> {
+    let netlist = board_or(rt, heap, path, |verdict| refused(rt, verdict))?;
+    accepted(rt, &netlist)
 }

@@ -2,23 +2,39 @@
 use crate::show::{explain, explain_call};
 use crate::trouble::Trouble;
 use clock::clock::Clock;
+use grammar::fault::Verdict;
 use netlist::reader::{Netlist, read_board};
 use script::call::Call;
 use script::calls::{ScriptFault, read_calls};
 use script::moment::Moment;
-use std::alloc::Global;
+use std::alloc::{AllocError, Global};
 use std::fs;
 
 pub fn bytes_of(rt: &HostRuntime, path: &str) -> Result<Vec<u8>, Trouble> {
-    match fs::read(rt, path) {
-        Ok(bytes) => Ok(bytes),
-        Err(error) => {
-            eprintln!(rt;
-                "boardsim: {path} cannot be read: {error}. Give the path of a file that can be read."
-            )?;
-            Err(Trouble::Told)
-        }
-    }
+    fs::read(rt, path).or_else(|error| {
+        eprintln!(rt;
+            "boardsim: {path} cannot be read: {error}. Give the path of a file that can be read."
+        )?;
+        Err(Trouble::Told)
+    })
+}
+
+// The board of a netlist file; if it is refused, the verdict is passed on, and then why is told.
+pub fn board_or<C: Clock, F: FnOnce(Verdict) -> Result<(), Trouble>>(
+    rt: &HostRuntime,
+    heap: Global,
+    path: &str,
+    refused: F,
+) -> Result<Netlist<C>, Trouble>
+    requires { F.IsAlwaysCallable refused }
+{
+    let file = bytes_of(rt, path)?;
+    read_board(file.as_slice(), heap).or_else(|fault| {
+        let verdict = fault.verdict().ok_or(Trouble::Memory(AllocError))?;
+        refused(verdict)?;
+        explain(rt, heap, path, file.as_slice(), fault, verdict)?;
+        Err(Trouble::Told)
+    })
 }
 
 // The board of a netlist file, or why it is refused.
@@ -27,17 +43,7 @@ pub fn board_of<C: Clock>(
     heap: Global,
     path: &str,
 ) -> Result<Netlist<C>, Trouble> {
-    let file = bytes_of(rt, path)?;
-    match read_board(file.as_slice(), heap) {
-        Ok(netlist) => Ok(netlist),
-        Err(fault) => match fault.verdict() {
-            Some(verdict) => {
-                explain(rt, heap, path, file.as_slice(), verdict)?;
-                Err(Trouble::Told)
-            }
-            None => Err(Trouble::Memory),
-        },
-    }
+    board_or(rt, heap, path, |_| Ok(()))
 }
 
 // The calls of a call file, or which line is none.
@@ -47,12 +53,11 @@ pub fn calls_of<C: Moment>(
     path: &str,
 ) -> Result<Vec<Call<C>>, Trouble> {
     let file = bytes_of(rt, path)?;
-    match read_calls(file.as_slice(), heap) {
-        Ok(calls) => Ok(calls),
-        Err(ScriptFault::BadLine { line }) => {
+    read_calls(file.as_slice(), heap).or_else(|fault| match fault {
+        ScriptFault::BadLine { line } => {
             explain_call(rt, heap, path, file.as_slice(), line)?;
             Err(Trouble::Told)
         }
-        Err(ScriptFault::Memory) => Err(Trouble::Memory),
-    }
+        ScriptFault::Memory => Err(Trouble::Memory(AllocError)),
+    })
 }

@@ -1,8 +1,6 @@
 // Checks, runs and plays boards that are written as netlist files.
 #![tactic(auto)]
 
-ghost use Rattle.std.specs.Prelude.{◌<◌, ◌≤◌, length};
-
 mod arguments;
 mod check;
 mod files;
@@ -15,10 +13,11 @@ mod trouble;
 use crate::check::check;
 use crate::play::play;
 use crate::run::run;
-use crate::trouble::{Trouble, complain};
-use anyhow::anyhow;
+use crate::trouble::Trouble;
+use anyhow::bail;
 use clock::dense::Dense;
 use clock::ticks::Ticks;
+use grammar::word::Word;
 use script::clock_word::ClockWord;
 use script::command::Command;
 use script::option_word::OptionWord;
@@ -39,10 +38,9 @@ fn run_words(rt: &HostRuntime, heap: Global, words: &[String]) -> Result<(), Tro
 fn clock_word(options: &[String]) -> Result<ClockWord, Trouble> {
     match options {
         [] => Ok(ClockWord::Superdense),
-        [option, value] => match OptionWord::named(option.as_bytes()) {
-            Some(OptionWord::Clock) => ClockWord::named(value.as_bytes()).ok_or(Trouble::Usage),
-            _ => Err(Trouble::Usage),
-        },
+        [option, value] if OptionWord::named(option.as_bytes()) == Some(OptionWord::Clock) => {
+            ClockWord::named(value.as_bytes()).ok_or(Trouble::Usage)
+        }
         _ => Err(Trouble::Usage),
     }
 }
@@ -62,59 +60,33 @@ fn command(rt: &HostRuntime, heap: Global, words: &[String]) -> Result<(), Troub
     let [first, rest @ ..] = words else {
         return show::usage(rt);
     };
-    match Command::named(first.as_bytes()) {
-        Some(Command::Help) => show::usage(rt),
-        Some(Command::Check) => match rest {
+    match Command::named(first.as_bytes()).ok_or(Trouble::Usage)? {
+        Command::Help => show::usage(rt),
+        Command::Check => match rest {
             [path] => check(rt, heap, path.as_str()),
             _ => Err(Trouble::Usage),
         },
-        Some(Command::Run) => run_words(rt, heap, rest),
-        Some(Command::Play) => play_words(rt, heap, rest),
-        None => Err(Trouble::Usage),
+        Command::Run => run_words(rt, heap, rest),
+        Command::Play => play_words(rt, heap, rest),
     }
-}
-
-// Where the first command ends: at the word `then`, or with the words.
-fn end_of_command(words: &[String]) -> usize
-    ensures within { result ≤ length words.now }
-{
-    'words: for i in 0..words.len() {
-        if words[i].as_str() == "then" {
-            return i;
-        }
-    }
-    words.len()
-}
-
-// The words after the end of a command.
-fn following(words: &[String], end: usize) -> &[String]
-    requires inside { end < length words.now }
-    ensures fewer { length result.now < length words.now }
-{
-    &words[end + 1..]
 }
 
 // The commands, one after another, to the first that is not carried out.
 fn work(rt: &HostRuntime) -> Result<(), Trouble> {
     let heap = rt.alloc();
     let words = arguments::words(rt, heap)?;
-    let mut rest = words.as_slice();
-    'commands: loop {
-        let end = end_of_command(rest);
-        command(rt, heap, &rest[0..end])?;
-        if end == rest.len() {
-            return Ok(());
-        }
-        rest = following(rest, end);
+    for words in words.split(|word| word.as_str() == "then") {
+        command(rt, heap, words)?;
     }
+    Ok(())
 }
 
 fn main(rt: HostRuntime) -> anyhow::Result<()> {
-    match work(&rt) {
-        Ok(()) => Ok(()),
-        Err(trouble) => {
-            complain(&rt, trouble)?;
-            Err(anyhow!("boardsim: the command was not carried out"))
+    if let Err(trouble) = work(&rt) {
+        if !matches!(trouble, Trouble::Told) {
+            eprintln!(rt; "boardsim: {trouble}")?;
         }
+        bail!("boardsim: the command was not carried out");
     }
+    Ok(())
 }

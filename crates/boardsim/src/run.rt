@@ -40,8 +40,7 @@ impl Total {
         let steps = self.steps;
         let events = self.events;
         let number = stop.number();
-        let why = show::reason(stop);
-        println!(rt; "{steps} steps, {events} events, stopped for reason {number}: {why}.")?;
+        println!(rt; "{steps} steps, {events} events, stopped for reason {number}: {stop}.")?;
         Ok(())
     }
 }
@@ -105,10 +104,7 @@ pub fn run<C: Moment>(
     settings: Settings<'_>,
 ) -> Result<(), Trouble> {
     let horizon = match settings.until {
-        Some(text) => match C::read(text) {
-            Some(moment) => moment,
-            None => return Err(Trouble::Until),
-        },
+        Some(text) => C::read(text).ok_or(Trouble::Until)?,
         None => C::ceiling(),
     };
     let netlist = board_of(rt, heap, path)?;

@@ -1,11 +1,12 @@
 // What is printed.
 use crate::trouble::Trouble;
 use board::nested::Board;
-use grammar::fault::{Layer, Verdict};
+use drawing::fault::Fault;
+use grammar::fault::{Layer, LineFault, TextFault, Verdict};
+use netlist::fault::{BlockFault, BoardFault};
 use part::catalogue::Catalogue;
 use script::moment::Moment;
-use script::spot::piece_at;
-use session::answers::Stop;
+use script::spot::{Piece, piece_at};
 use session::places::Event;
 use std::alloc::{AllocError, Global};
 
@@ -42,63 +43,96 @@ pub fn layer_word(layer: Layer) -> &'static str {
     }
 }
 
-// Why a run stopped.
-pub fn reason(stop: Stop) -> &'static str {
-    match stop {
-        Stop::Budget => "the budget of steps is spent",
-        Stop::NothingDue => "no part will ever fire again",
-        Stop::Horizon => "the next firing comes after the horizon",
-        Stop::Ceiling => "the next firing is beyond the clock's ceiling",
-        Stop::TraceFull => "the trace has no free record for the next event",
+// What is wrong with a file that is refused, and what to do about it.
+#[derive(Clone, Copy)]
+struct Advice {
+    wrong: &'static str,
+    next: &'static str,
+}
+
+// A field is none that may stand there.
+const BAD_FIELD: Advice = Advice {
+    wrong: "a name, a kind, a number or a wire end is not well formed or out of range",
+    next: "Names are 1 to 8 letters a to z and digits, a letter first; kinds are gen P V S, uart B and line D; a wire end is NAME.PIN or -.PIN.",
+};
+
+// The first line says another board.
+const BAD_COUNTS: Advice = Advice {
+    wrong: "the counts of the first line are not those of the board",
+    next: "Write the true counts of blocks, parts and wires there.",
+};
+
+fn text_advice(fault: TextFault) -> Advice {
+    match fault {
+        TextFault::BadSize => Advice {
+            wrong: "the file is not 1 to 32,768 bytes that end with a newline",
+            next: "End the last line with a newline, and keep the file below that size.",
+        },
+        TextFault::BadText { line: _ } => Advice {
+            wrong: "the line is not 1 to 80 bytes of fields with single spaces between them",
+            next: "Write printable fields with one space between them, and none at either end.",
+        },
     }
 }
 
-// What is wrong with a file that fails this question.
-fn wrong(number: u8) -> &'static str {
-    match number {
-        1 => "the file is not 1 to 32,768 bytes that end with a newline",
-        2 => "the line is not 1 to 80 bytes of fields with single spaces between them",
-        3 =>
-            "the line is none that may stand here, or has too many or too few fields, or the file ends too soon",
-        4 => "a name, a kind, a number or a wire end is not well formed or out of range",
-        5 => "the name is taken in its block",
-        6 => "the board is larger than 32 blocks, 64 parts, 256 wires or 8 blocks deep",
-        7 => "a wire end is not drawn yet in this block, or has no such pin on that side",
-        8 => "the wire joins a child or the block to itself",
-        9 => "the wire stands already in this block",
-        _ => "the counts of the first line are not those of the board",
+fn line_advice(fault: LineFault) -> Advice {
+    match fault {
+        LineFault::Text(fault) => text_advice(fault),
+        LineFault::Missing { line: _ }
+        | LineFault::BadLetter { line: _ }
+        | LineFault::FieldCount { line: _ } => Advice {
+            wrong: "the line is none that may stand here, or has too many or too few fields, or the file ends too soon",
+            next: "Write N BLOCKS PARTS WIRES first, then for each block B NAME INS OUTS, its P, W and B lines, and E.",
+        },
+        LineFault::BadKind { line: _ }
+        | LineFault::NumberCount { line: _ }
+        | LineFault::BadField { line: _, field: _ } => BAD_FIELD,
     }
 }
 
-// What to do about it.
-fn advice(number: u8) -> &'static str {
-    match number {
-        1 => "End the last line with a newline, and keep the file below that size.",
-        2 => "Write printable fields with one space between them, and none at either end.",
-        3 =>
-            "Write N BLOCKS PARTS WIRES first, then for each block B NAME INS OUTS, its P, W and B lines, and E.",
-        4 =>
-            "Names are 1 to 8 letters a to z and digits, a letter first; kinds are gen P V S, uart B and line D; a wire end is NAME.PIN or -.PIN.",
-        5 => "Give the child a name that its block has not.",
-        6 => "Leave something out, or make two boards of it.",
-        7 =>
-            "Write the wire after both its ends, from an output or an own input to an input or an own output.",
-        8 => "Lead the wire to another child.",
-        9 => "Delete the second wire.",
-        _ => "Write the true counts of blocks, parts and wires there.",
+fn drawing_advice(fault: Fault) -> Advice {
+    match fault {
+        Fault::BadName | Fault::BadPins => BAD_FIELD,
+        Fault::NameTaken => Advice {
+            wrong: "the name is taken in its block",
+            next: "Give the child a name that its block has not.",
+        },
+        Fault::TooManyBlocks | Fault::TooManyParts | Fault::TooManyWires | Fault::TooDeep => {
+            Advice {
+                wrong: "the board is larger than 32 blocks, 64 parts, 256 wires or 8 blocks deep",
+                next: "Leave something out, or make two boards of it.",
+            }
+        }
+        Fault::NoFrom | Fault::NoTo => Advice {
+            wrong: "a wire end is not drawn yet in this block, or has no such pin on that side",
+            next: "Write the wire after both its ends, from an output or an own input to an input or an own output.",
+        },
+        Fault::Loop => Advice {
+            wrong: "the wire joins a child or the block to itself",
+            next: "Lead the wire to another child.",
+        },
+        Fault::Twice => Advice {
+            wrong: "the wire stands already in this block",
+            next: "Delete the second wire.",
+        },
+        // no question of a netlist file
+        Fault::Misplaced | Fault::Memory => BAD_COUNTS,
     }
 }
 
-// So many of a character after so many spaces.
-fn pointer(heap: Global, start: usize, width: usize) -> Result<String, AllocError> {
-    let mut text = String::new(heap);
-    for _ in 0..start.min(QUOTED) {
-        text.push(' ')?;
+// The advice on a fault; none for want of memory.
+fn board_advice(fault: BoardFault) -> Option<Advice> {
+    match fault {
+        BoardFault::Block(BlockFault::Line(fault)) => Some(line_advice(fault)),
+        BoardFault::Block(BlockFault::Refused { fault, line: _ }) => Some(drawing_advice(fault)),
+        BoardFault::Block(BlockFault::Memory) => None,
+        BoardFault::Disagrees { field: _ } => Some(BAD_COUNTS),
     }
-    for _ in 0..width.min(QUOTED) {
-        text.push('^')?;
-    }
-    Ok(text)
+}
+
+// The piece of a text with this number, counted from 1; none has number 0.
+fn piece(text: &[u8], separator: u8, number: usize) -> Option<Piece<'_>> {
+    piece_at(text, separator, number.checked_sub(1)?)
 }
 
 // Quotes a line, and points at its field.
@@ -109,23 +143,18 @@ fn quote(
     line: usize,
     field: usize,
 ) -> Result<(), Trouble> {
-    if line == 0 {
-        return Ok(());
-    }
-    let Some(whole) = piece_at(file, b'\n', line - 1) else {
+    let Some(whole) = piece(file, b'\n', line) else {
         return Ok(());
     };
     if whole.text.is_empty() {
         return Ok(());
     }
-    let text = String::from_utf8_lossy(heap, &whole.text[0..whole.text.len().min(QUOTED)])?;
+    let text = String::from_utf8_lossy(heap, &whole.text[..whole.text.len().min(QUOTED)])?;
     eprintln!(rt; "    {text}")?;
-    if field == 0 {
-        return Ok(());
-    }
-    if let Some(part) = piece_at(whole.text, b' ', field - 1) {
-        let carets = pointer(heap, part.start, part.text.len())?;
-        eprintln!(rt; "    {carets}")?;
+    if let Some(part) = piece(whole.text, b' ', field) {
+        let spaces = " ".repeat(heap, part.start.min(QUOTED))?;
+        let carets = "^".repeat(heap, part.text.len().min(QUOTED))?;
+        eprintln!(rt; "    {spaces}{carets}")?;
     }
     Ok(())
 }
@@ -145,14 +174,14 @@ pub fn explain(
     heap: Global,
     path: &str,
     file: &[u8],
+    fault: BoardFault,
     verdict: Verdict,
 ) -> Result<(), Trouble> {
+    let Advice { wrong, next } = board_advice(fault).ok_or(Trouble::Memory(AllocError))?;
     let number = verdict.number;
     let line = verdict.line;
-    let what = wrong(number);
-    let next = advice(number);
     print_place(rt, path, line)?;
-    eprintln!(rt; ": question {number} is answered no: {what}.")?;
+    eprintln!(rt; ": question {number} is answered no: {wrong}.")?;
     quote(rt, heap, file, line, verdict.field)?;
     eprintln!(rt; "{next}")?;
     Ok(())
@@ -178,12 +207,11 @@ pub fn explain_call(
 
 // The paths of a board's parts, by their numbers.
 pub fn paths<C>(heap: Global, board: &Board<Catalogue<C>>) -> Result<Vec<String>, AllocError> {
-    let mut all = Vec::new(heap);
-    for part in 0..board.starts().len() {
-        let bytes = board.path(heap, part)?;
-        all.push(String::from_utf8_lossy(heap, bytes.as_slice())?)?;
-    }
-    Ok(all)
+    (0..board.starts().len())
+        .map(|part| -> Result<String, AllocError> {
+            Ok(String::from_utf8_lossy(heap, board.path(heap, part)?.as_slice())?)
+        })
+        .try_collect(heap)
 }
 
 // An event of a run, with its part's path.

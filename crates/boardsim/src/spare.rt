@@ -9,26 +9,20 @@ pub fn places<C: Clock>(
     heap: Global,
     count: usize,
 ) -> Result<Vec<Place<Catalogue<C>, C>>, AllocError> {
-    let mut all = Vec::with_capacity(heap, count)?;
-    for _ in 0..count {
-        all.push(Place {
-            part: Catalogue::Line(Line::new(0)),
-            last: C::zero(),
-        })?;
-    }
-    Ok(all)
+    let blank = Place {
+        part: Catalogue::Line(Line::new(0)),
+        last: C::zero(),
+    };
+    vec![in heap; blank; count]
 }
 
 pub fn trace<C: Clock>(heap: Global, count: u16) -> Result<Vec<Event<C>>, AllocError> {
-    let mut all = Vec::with_capacity(heap, usize::from(count))?;
-    for _ in 0..count {
-        all.push(Event {
-            moment: C::zero(),
-            part: 0,
-            pins: 0,
-            value: 0,
-            board: 0,
-        })?;
-    }
-    Ok(all)
+    let blank = Event {
+        moment: C::zero(),
+        part: 0,
+        pins: 0,
+        value: 0,
+        board: 0,
+    };
+    vec![in heap; blank; usize::from(count)]
 }

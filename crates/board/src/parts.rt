@@ -1,7 +1,7 @@
 // What a plan holds.
 use names::name::Name;
 
-#[derive(Clone, Copy)]
+#[derive(Clone, Copy, PartialEq, Eq, Debug)]
 pub struct Block {
     pub name: Name,
     // the block that holds it; the board holds itself
@@ -12,7 +12,7 @@ pub struct Block {
     pub outs: u8,
 }
 
-#[derive(Clone, Copy)]
+#[derive(Clone, Copy, PartialEq, Eq, Debug)]
 pub struct Component {
     pub name: Name,
     // the block that holds it

@@ -1,6 +1,5 @@
 // boardsim check: whether a netlist file is accepted.
 use crate::files::board_or;
-use crate::show::layer_word;
 use crate::trouble::Trouble;
 use clock::dense::Dense;
 use grammar::fault::Verdict;
@@ -17,11 +16,7 @@ fn accepted(rt: &HostRuntime, netlist: &Netlist<Dense>) -> Result<(), Trouble> {
 }
 
 fn refused(rt: &HostRuntime, verdict: Verdict) -> Result<(), Trouble> {
-    let number = verdict.number;
-    let line = verdict.line;
-    let field = verdict.field;
-    let layer = layer_word(verdict.layer);
-    println!(rt; "refused {number} line {line} field {field} {layer}")?;
+    println!(rt; "refused {verdict}")?;
     Ok(())
 }
 

@@ -7,7 +7,7 @@ use netlist::reader::{Netlist, read_board};
 use script::call::Call;
 use script::calls::{ScriptFault, read_calls};
 use script::moment::Moment;
-use std::alloc::{AllocError, Global};
+use std::alloc::Global;
 use std::fs;
 
 pub fn bytes_of(rt: &HostRuntime, path: &str) -> Result<Vec<u8>, Trouble> {
@@ -30,7 +30,7 @@ pub fn board_or<C: Clock, F: FnOnce(Verdict) -> Result<(), Trouble>>(
 {
     let file = bytes_of(rt, path)?;
     read_board(file.as_slice(), heap).or_else(|fault| {
-        let verdict = fault.verdict().ok_or(Trouble::Memory(AllocError))?;
+        let verdict = fault.verdict().ok_or(Trouble::Reader)?;
         refused(verdict)?;
         explain(rt, heap, path, file.as_slice(), fault, verdict)?;
         Err(Trouble::Told)
@@ -58,6 +58,6 @@ pub fn calls_of<C: Moment>(
             explain_call(rt, heap, path, file.as_slice(), line)?;
             Err(Trouble::Told)
         }
-        ScriptFault::Memory => Err(Trouble::Memory(AllocError)),
+        ScriptFault::Memory => Err(Trouble::Reader),
     })
 }

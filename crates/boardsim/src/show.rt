@@ -2,7 +2,7 @@
 use crate::trouble::Trouble;
 use board::nested::Board;
 use drawing::fault::Fault;
-use grammar::fault::{Layer, LineFault, TextFault, Verdict};
+use grammar::fault::{LineFault, TextFault, Verdict};
 use netlist::fault::{BlockFault, BoardFault};
 use part::catalogue::Catalogue;
 use script::moment::Moment;
@@ -34,15 +34,6 @@ pub fn usage(rt: &HostRuntime) -> Result<(), Trouble> {
     Ok(())
 }
 
-pub fn layer_word(layer: Layer) -> &'static str {
-    match layer {
-        Layer::Text => "text",
-        Layer::Line => "line",
-        Layer::Block => "block",
-        Layer::Board => "board",
-    }
-}
-
 // What is wrong with a file that is refused, and what to do about it.
 #[derive(Clone, Copy)]
 struct Advice {
@@ -68,7 +59,7 @@ fn text_advice(fault: TextFault) -> Advice {
             wrong: "the file is not 1 to 32,768 bytes that end with a newline",
             next: "End the last line with a newline, and keep the file below that size.",
         },
-        TextFault::BadText { line: _ } => Advice {
+        TextFault::BadText { .. } => Advice {
             wrong: "the line is not 1 to 80 bytes of fields with single spaces between them",
             next: "Write printable fields with one space between them, and none at either end.",
         },
@@ -78,15 +69,13 @@ fn text_advice(fault: TextFault) -> Advice {
 fn line_advice(fault: LineFault) -> Advice {
     match fault {
         LineFault::Text(fault) => text_advice(fault),
-        LineFault::Missing { line: _ }
-        | LineFault::BadLetter { line: _ }
-        | LineFault::FieldCount { line: _ } => Advice {
-            wrong: "the line is none that may stand here, or has too many or too few fields, or the file ends too soon",
-            next: "Write N BLOCKS PARTS WIRES first, then for each block B NAME INS OUTS, its P, W and B lines, and E.",
-        },
-        LineFault::BadKind { line: _ }
-        | LineFault::NumberCount { line: _ }
-        | LineFault::BadField { line: _, field: _ } => BAD_FIELD,
+        LineFault::Missing { .. } | LineFault::BadLetter { .. } | LineFault::FieldCount { .. } =>
+            Advice {
+                wrong: "the line is none that may stand here, or has too many or too few fields, or the file ends too soon",
+                next: "Write N BLOCKS PARTS WIRES first, then for each block B NAME INS OUTS, its P, W and B lines, and E.",
+            },
+        LineFault::BadKind { .. } | LineFault::NumberCount { .. } | LineFault::BadField { .. } =>
+            BAD_FIELD,
     }
 }
 
@@ -124,9 +113,9 @@ fn drawing_advice(fault: Fault) -> Advice {
 fn board_advice(fault: BoardFault) -> Option<Advice> {
     match fault {
         BoardFault::Block(BlockFault::Line(fault)) => Some(line_advice(fault)),
-        BoardFault::Block(BlockFault::Refused { fault, line: _ }) => Some(drawing_advice(fault)),
+        BoardFault::Block(BlockFault::Refused { fault, .. }) => Some(drawing_advice(fault)),
         BoardFault::Block(BlockFault::Memory) => None,
-        BoardFault::Disagrees { field: _ } => Some(BAD_COUNTS),
+        BoardFault::Disagrees { .. } => Some(BAD_COUNTS),
     }
 }
 
@@ -177,7 +166,7 @@ pub fn explain(
     fault: BoardFault,
     verdict: Verdict,
 ) -> Result<(), Trouble> {
-    let Advice { wrong, next } = board_advice(fault).ok_or(Trouble::Memory(AllocError))?;
+    let Advice { wrong, next } = board_advice(fault).ok_or(Trouble::Reader)?;
     let number = verdict.number;
     let line = verdict.line;
     print_place(rt, path, line)?;

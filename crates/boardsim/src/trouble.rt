@@ -14,6 +14,9 @@ pub enum Trouble {
     Told,
     #[error("the run is refused, number {number}. Give --until a moment within the clock's ceiling.", number = .0.number())]
     Refused(#[from] Refusal),
+    // the reader of a file finds no memory
+    #[error("there is no memory left. Free some memory, and run it again.")]
+    Reader,
     #[error("there is no memory left. Free some memory, and run it again.")]
     Memory(#[from(alloc)] AllocError),
     #[error("the output could not be written. Write it to a place with room, and run it again.")]

@@ -1,32 +1,7 @@
 // A file that is read twice gives equal boards.
 use crate::helpers::example;
-use board::parts::{Block, Component};
-use clock::dense::Dense;
 use part::catalogue::Catalogue;
-use part::generator::Gen;
-use part::line::Line;
 use std::test::Fail;
-
-// kept: blocks and components of the board derive no equality
-fn is_same_block(a: &Block, b: &Block) -> bool {
-    a.name == b.name
-        && a.parent == b.parent
-        && a.depth == b.depth
-        && a.ins == b.ins
-        && a.outs == b.outs
-}
-
-fn is_same_component(a: &Component, b: &Component) -> bool {
-    a.name == b.name && a.block == b.block && a.ins == b.ins && a.outs == b.outs
-}
-
-fn is_same_generator(a: Gen<Dense>, b: Gen<Dense>) -> bool {
-    a.period == b.period && a.value == b.value && a.step == b.step && a.left == b.left
-}
-
-fn is_same_line(a: Line<Dense>, b: Line<Dense>) -> bool {
-    a.delay == b.delay && a.value == b.value && a.left == b.left
-}
 
 #[test]
 fn reading_twice_gives_equal_boards(rt: HostRuntime) -> Result<(), Fail> {
@@ -36,14 +11,8 @@ fn reading_twice_gives_equal_boards(rt: HostRuntime) -> Result<(), Fail> {
     let a = &first.board;
     let b = &second.board;
     assert!(rt; a.plan.wires.as_slice() == b.plan.wires.as_slice());
-    assert_eq!(rt; a.plan.blocks.len(), b.plan.blocks.len());
-    for (x, y) in a.plan.blocks.iter().zip(b.plan.blocks.iter()) {
-        assert!(rt; is_same_block(x, y));
-    }
-    assert_eq!(rt; a.plan.components.len(), b.plan.components.len());
-    for (x, y) in a.plan.components.iter().zip(b.plan.components.iter()) {
-        assert!(rt; is_same_component(x, y));
-    }
+    assert!(rt; a.plan.blocks.as_slice() == b.plan.blocks.as_slice());
+    assert!(rt; a.plan.components.as_slice() == b.plan.components.as_slice());
     let ([a, g], [b, h]) = (a.starts(), b.starts()) else {
         return Err(Fail::new("not two parts"));
     };
@@ -53,7 +22,7 @@ fn reading_twice_gives_equal_boards(rt: HostRuntime) -> Result<(), Fail> {
     let (Catalogue::Gen(g), Catalogue::Gen(h)) = (*g, *h) else {
         return Err(Fail::new("not two generators"));
     };
-    assert!(rt; is_same_line(a, b));
-    assert!(rt; is_same_generator(g, h));
+    assert_eq!(rt; a, b);
+    assert_eq!(rt; g, h);
     Ok(())
 }

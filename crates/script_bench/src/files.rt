@@ -23,10 +23,7 @@ fn call_files(rt: HostRuntime) {
 }
 
 fn start_of(text: &[u8], before: usize) -> Option<(usize, usize)> {
-    match piece_at(text, b' ', before) {
-        Some(piece) => Some((piece.start, piece.text.len())),
-        None => None,
-    }
+    piece_at(text, b' ', before).map(|piece| (piece.start, piece.text.len()))
 }
 
 #[test]

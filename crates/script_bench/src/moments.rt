@@ -5,17 +5,11 @@ use clock::ticks::Ticks;
 use script::moment::Moment;
 
 fn pair(text: &[u8]) -> Option<(u64, u32)> {
-    match Dense::read(text) {
-        Some(moment) => Some((moment.tick(), moment.micro())),
-        None => None,
-    }
+    Dense::read(text).map(|moment| (moment.tick(), moment.micro()))
 }
 
 fn count(text: &[u8]) -> Option<u64> {
-    match Ticks::read(text) {
-        Some(moment) => Some(moment.count()),
-        None => None,
-    }
+    Ticks::read(text).map(|moment| moment.count())
 }
 
 #[test]

@@ -1,4 +1,5 @@
 // The words of the command line, and what options set.
+use grammar::word::Word;
 use script::clock_word::ClockWord;
 use script::command::Command;
 use script::option_word::OptionWord;
@@ -20,10 +21,8 @@ fn names(rt: HostRuntime) {
 
 // The budget and the clock after an option.
 fn after(option: OptionWord, value: &[u8]) -> Option<(u64, bool)> {
-    match Settings::untold().with(option, value) {
-        Some(told) => Some((told.budget, told.clock == ClockWord::Plain)),
-        None => None,
-    }
+    let told = Settings::untold().with(option, value)?;
+    Some((told.budget, told.clock == ClockWord::Plain))
 }
 
 #[test]

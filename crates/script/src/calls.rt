@@ -16,7 +16,7 @@ pub enum ScriptFault {
     Memory,
 }
 
-// kept: what a derived From makes no clause says, and read_calls promises which fault comes
+// kept: a derived From promises nothing, and read_calls promises which fault comes
 impl From<AllocError> for ScriptFault {
     ghost from_gives = { λ _ r. r ≡ Memory };
 

@@ -40,6 +40,7 @@ pub fn blank() -> Event<Dense> {
 }
 
 // The call was refused, with this number.
+// kept: numbers, since the tests are of the numbers that refusals and reasons have
 pub fn refused<T: Drop>(rt: &impl Abort, answer: Result<T, Refusal>, number: u8) {
     assert_eq!(rt; answer.err().map(Refusal::number), Some(number));
 }

@@ -63,6 +63,7 @@ fn alone(to: Pin) -> Row
                 row.board = 1 << pin;
             }
         }
+        // kept: two arms, since the proof has no name for one arm of both
         Pin::PartOut { .. } => {}
         Pin::BlockIn { .. } => {}
     }

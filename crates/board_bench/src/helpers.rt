@@ -22,6 +22,7 @@ pub fn nth(k: u8) -> Result<Name, Fail> {
 }
 
 // The call was refused for this fault, and the fault has this number.
+// kept: a number beside the fault, since the tests are of both
 pub fn refused(rt: &impl Abort, answer: Result<(), Fault>, fault: Fault, number: u8) {
     assert_eq!(rt; answer, Err(fault));
     assert_eq!(rt; fault.number(), number);

@@ -1,4 +1,5 @@
 // Checks, runs and plays boards that are written as netlist files.
+// kept: the handle and the heap are passed apart, since what only allocates is given no handle
 #![tactic(auto)]
 
 mod arguments;

@@ -28,6 +28,7 @@ impl Row {
         ensures reaches_what_either_does { Joins self other.now result }
     {
         let mut sets = self.sets;
+        // kept: numbered, and no `zip`: after `zip` over `iter_mut` the check has no name for what was written
         'parts: for (part, set) in sets.iter_mut().enumerate() {
             *set |= other.sets[part];
         }

@@ -7,6 +7,7 @@ use board::plan::Plan;
 pub struct Drawing<P> {
     pub plan: Plan,
     // by part number
+    // kept: beside the components, as the board lends them
     pub starts: Vec<P>,
     // the open block; none before the board is opened and after it is closed
     pub current: Option<usize>,

@@ -7,37 +7,35 @@ use coupling::network::Network;
 use part::catalogue::Catalogue;
 use session::answers::Ran;
 use session::places::Event;
-use std::alloc::Global;
+use std::alloc::{AllocError, Global};
 
-// A part's path as text.
-fn path_text(
-    heap: Global,
-    board: &Board<Catalogue<Dense>>,
-    part: usize,
-) -> Result<String, Trouble> {
-    let bytes = board.path(heap, part)?;
-    Ok(String::from_utf8_lossy(heap, bytes.as_slice())?)
+// The paths of a board's parts, by their numbers.
+pub fn paths(heap: Global, board: &Board<Catalogue<Dense>>) -> Result<Vec<String>, AllocError> {
+    (0..board.starts().len())
+        .map(|part| -> Result<String, AllocError> {
+            Ok(String::from_utf8_lossy(heap, board.path(heap, part)?.as_slice())?)
+        })
+        .try_collect(heap)
 }
 
-fn print_event(
-    rt: &HostRuntime,
-    heap: Global,
-    board: &Board<Catalogue<Dense>>,
-    event: &Event<Dense>,
-) -> Result<(), Trouble> {
+// The path of a part; empty where there is none.
+fn path_of(paths: &[String], part: usize) -> &str {
+    paths.get(part).map_or("", |path| path.as_str())
+}
+
+fn print_event(rt: &HostRuntime, paths: &[String], event: &Event<Dense>) -> Result<(), Trouble> {
     let moment = event.moment;
     let value = event.value;
     let pins = event.pins;
     let outputs = event.board;
-    let name = path_text(heap, board, event.part)?;
-    println!(rt; "{name} {value} at {moment} (its pins {pins:02x}, board pins {outputs:02x})")?;
+    let path = path_of(paths, event.part);
+    println!(rt; "{path} {value} at {moment} (its pins {pins:02x}, board pins {outputs:02x})")?;
     Ok(())
 }
 
 pub fn report(
     rt: &HostRuntime,
-    heap: Global,
-    board: &Board<Catalogue<Dense>>,
+    paths: &[String],
     ran: Ran,
     trace: &[Event<Dense>],
 ) -> Result<(), Trouble> {
@@ -48,7 +46,7 @@ pub fn report(
         "in which delay line a (4 ticks) feeds the board's output pin 0. Run from opening to 12:0:"
     )?;
     for event in trace.iter().take(usize::from(ran.events)) {
-        print_event(rt, heap, board, event)?;
+        print_event(rt, paths, event)?;
     }
     let steps = ran.steps;
     let events = ran.events;
@@ -61,8 +59,7 @@ pub fn report(
 // What pin 0 of a source reaches.
 fn print_row(
     rt: &HostRuntime,
-    heap: Global,
-    board: &Board<Catalogue<Dense>>,
+    paths: &[String],
     network: &Network,
     source: Source,
 ) -> Result<(), Trouble> {
@@ -70,14 +67,14 @@ fn print_row(
     match source {
         Source::Board => print!(rt; "board input 0 reaches")?,
         Source::Part(part) => {
-            let name = path_text(heap, board, part)?;
-            print!(rt; "{name} pin 0 reaches")?;
+            let path = path_of(paths, part);
+            print!(rt; "{path} pin 0 reaches")?;
         }
     }
     for (part, pins) in row.sets.iter().take(network.parts()).enumerate() {
         if *pins != 0 {
-            let name = path_text(heap, board, part)?;
-            print!(rt; " {name} ({pins:02x})")?;
+            let path = path_of(paths, part);
+            print!(rt; " {path} ({pins:02x})")?;
         }
     }
     let outputs = row.board;
@@ -85,18 +82,13 @@ fn print_row(
     Ok(())
 }
 
-pub fn report_rows(
-    rt: &HostRuntime,
-    heap: Global,
-    board: &Board<Catalogue<Dense>>,
-    network: &Network,
-) -> Result<(), Trouble> {
+pub fn report_rows(rt: &HostRuntime, paths: &[String], network: &Network) -> Result<(), Trouble> {
     println!(rt;
         "The second board is four blocks deep; flattened, a pin reaches each pin to which a path of wires leads:"
     )?;
-    print_row(rt, heap, board, network, Source::Board)?;
+    print_row(rt, paths, network, Source::Board)?;
     for part in 0..network.parts() {
-        print_row(rt, heap, board, network, Source::Part(part))?;
+        print_row(rt, paths, network, Source::Part(part))?;
     }
     Ok(())
 }

@@ -96,6 +96,7 @@ impl<'a> Fields<'a> {
     }
 
     // The next field.
+    // kept: each reader asks that a field is left; that changes with each field taken, so no invariant can say it
     pub(crate) fn next(&mut self) -> Placed<'a>
         requires some { 0 < length (left 32 self.old.words.rest) }
         ensures takes_one { Takes self.old result.text.now self.new × (result.line ≡ self.new.line) × (result.field ≡ self.new.read) }

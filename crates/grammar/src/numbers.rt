@@ -13,7 +13,6 @@ pub fn natural(text: &[u8]) -> Option<u64>
         return None;
     }
     let mut value = 0;
-    // kept: a loop, since a closure for `try_fold` cannot know that the sum so far is small
     'digits: for digit in text {
         if !digit.is_ascii_digit() {
             return None;
@@ -24,6 +23,7 @@ pub fn natural(text: &[u8]) -> Option<u64>
 }
 
 // The number between low and high that a text writes.
+// kept: low and high apart, as this public function promises of them
 pub fn number(text: &[u8], low: u16, high: u16) -> Option<u16>
     ensures reads_or_refuses { MatchOption result ((v : ℕ) → Numeral low high v text.now → ⊥) (λ v. Numeral low high v text.now) }
 {

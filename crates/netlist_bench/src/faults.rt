@@ -3,6 +3,7 @@ use crate::helpers::refusal;
 use grammar::fault::{Layer, Verdict};
 use std::test::Fail;
 
+// kept: a number, as a verdict tells it
 fn verdict(number: u8, line: usize, field: usize, layer: Layer) -> Verdict {
     Verdict {
         number,

@@ -28,6 +28,7 @@ pub trait Part<C: Clock>: Copy {
     fn internal(&mut self)
         ensures stores_the_next_state { self.new ≡ kind.internal self.old };
 
+    // kept: three arguments, since each kind's function in specs/ takes them so, and this is the public interface of parts
     fn external(&mut self, elapsed: C, pins: u8, value: u8)
         ensures stores_the_next_state { self.new ≡ kind.external self.old elapsed pins value };
 

@@ -56,9 +56,5 @@ impl<C> Answer<C> {
 pub(crate) fn answer_of<C>(outcome: Result<Answer<C>, Refusal>) -> Answer<C>
     ensures is_the_answer { result ≡ answered (λ answer. answer) outcome }
 {
-    // kept: `unwrap_or_else(Answer::Refused)` gets no proof, since the type `Refusal` does not name `C`
-    match outcome {
-        Ok(answer) => answer,
-        Err(refusal) => Answer::Refused(refusal),
-    }
+    outcome.unwrap_or_else(|refusal| Answer::Refused(refusal))
 }

@@ -70,6 +70,7 @@ impl Stop {
 }
 
 // What a step answers: an event, or the moment of a firing with no output.
+// kept: no `Result`, since a silent firing is no failure
 #[derive(Clone, Copy, PartialEq, Eq, Debug)]
 pub enum Firing<C> {
     Output(Event<C>),

@@ -43,12 +43,14 @@ pub(crate) fn deliver<P: Part<C>, C: Clock>(
     requires in_range { length places.old ≤ 64 }
     ensures gives_each_its_set { places.new ≡ delivered C.Clock.time P.Part.kind moment value (length places.old) (set_of row.now) places.old }
 {
+    // kept: numbered, and no `zip`: after `zip` over `iter_mut` the check has no name for what was written
     'parts: for (part, place) in places.iter_mut().enumerate() {
         *place = place.given(moment, row.sets[part], value);
     }
 }
 
 // The due part gives its output and takes internal, and the output is delivered.
+// kept: the places and their coupling apart, since each call is lent its places anew
 pub(crate) fn fire<P: Part<C>, C: Clock, K: Coupling>(
     places: &mut [Place<P, C>],
     coupling: &K,

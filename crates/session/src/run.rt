@@ -13,6 +13,7 @@ use coupling::coupling::Coupling;
 use part::part::Part;
 
 // Fires part after part, and writes the events to the trace.
+// kept: the arguments of `run`, one by one, since places and trace are lent for one call
 fn firings<P: Part<C>, C: Clock, K: Coupling>(
     session: &mut Session<C>,
     coupling: &K,

@@ -23,8 +23,13 @@ fn waiting() -> Place<Line<Dense>, Dense> {
 
 // The place is still as `waiting` made it.
 fn kept(rt: &impl Abort, place: &Place<Line<Dense>, Dense>) {
-    assert_eq!(rt; place.part, waiting().part);
-    assert_eq!(rt; place.last, waiting().last);
+    let part = Line {
+        delay: 4,
+        value: 7,
+        left: Some(at(4, 0)),
+    };
+    assert_eq!(rt; place.part, part);
+    assert_eq!(rt; place.last, at(4, 0));
 }
 
 // The same, and the session is still at 5:0.

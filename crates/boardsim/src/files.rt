@@ -26,7 +26,7 @@ pub fn board_or<C: Clock, F: FnOnce(Verdict) -> Result<(), Trouble>>(
     path: &str,
     refused: F,
 ) -> Result<Netlist<C>, Trouble>
-    requires { F.IsAlwaysCallable refused }
+    requires may_be_called { F.IsAlwaysCallable refused }
 {
     let file = bytes_of(rt, path)?;
     read_board(file.as_slice(), heap).or_else(|fault| {

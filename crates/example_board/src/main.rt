@@ -7,7 +7,7 @@ mod print;
 mod trouble;
 
 use crate::drawn::generator;
-use crate::print::{paths, report, report_rows};
+use crate::print::{report, report_rows};
 use crate::trouble::Trouble;
 use board::nested::Board;
 use clock::clock::Clock;
@@ -47,10 +47,10 @@ fn work(rt: &HostRuntime) -> Result<(), Trouble> {
     let mut trace = [blank; 9];
     let board = drawn::example(heap)?;
     let ran = simulated(heap, &board, &mut trace)?;
-    report(rt, paths(heap, &board)?.as_slice(), ran, &trace)?;
+    report(rt, heap, &board, ran, &trace)?;
     let second = deep::board(heap)?;
     let network = second.flatten(heap)?;
-    report_rows(rt, paths(heap, &second)?.as_slice(), &network)?;
+    report_rows(rt, heap, &second, &network)?;
     Ok(())
 }
 

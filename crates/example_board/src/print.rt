@@ -10,7 +10,7 @@ use session::places::Event;
 use std::alloc::{AllocError, Global};
 
 // The paths of a board's parts, by their numbers.
-pub fn paths(heap: Global, board: &Board<Catalogue<Dense>>) -> Result<Vec<String>, AllocError> {
+fn paths(heap: Global, board: &Board<Catalogue<Dense>>) -> Result<Vec<String>, AllocError> {
     (0..board.starts().len())
         .map(|part| -> Result<String, AllocError> {
             Ok(String::from_utf8_lossy(heap, board.path(heap, part)?.as_slice())?)
@@ -35,7 +35,8 @@ fn print_event(rt: &HostRuntime, paths: &[String], event: &Event<Dense>) -> Resu
 
 pub fn report(
     rt: &HostRuntime,
-    paths: &[String],
+    heap: Global,
+    board: &Board<Catalogue<Dense>>,
     ran: Ran,
     trace: &[Event<Dense>],
 ) -> Result<(), Trouble> {
@@ -45,8 +46,9 @@ pub fn report(
     println!(rt;
         "in which delay line a (4 ticks) feeds the board's output pin 0. Run from opening to 12:0:"
     )?;
+    let paths = paths(heap, board)?;
     for event in trace.iter().take(usize::from(ran.events)) {
-        print_event(rt, paths, event)?;
+        print_event(rt, paths.as_slice(), event)?;
     }
     let steps = ran.steps;
     let events = ran.events;
@@ -82,10 +84,17 @@ fn print_row(
     Ok(())
 }
 
-pub fn report_rows(rt: &HostRuntime, paths: &[String], network: &Network) -> Result<(), Trouble> {
+pub fn report_rows(
+    rt: &HostRuntime,
+    heap: Global,
+    board: &Board<Catalogue<Dense>>,
+    network: &Network,
+) -> Result<(), Trouble> {
     println!(rt;
         "The second board is four blocks deep; flattened, a pin reaches each pin to which a path of wires leads:"
     )?;
+    let paths = paths(heap, board)?;
+    let paths = paths.as_slice();
     print_row(rt, paths, network, Source::Board)?;
     for part in 0..network.parts() {
         print_row(rt, paths, network, Source::Part(part))?;

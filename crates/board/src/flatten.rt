@@ -63,7 +63,7 @@ fn alone(to: Pin) -> Row
                 row.board = 1 << pin;
             }
         }
-        // kept: two arms, since the proof has no name for one arm of both
+        // kept: two arms; with one for both the proof did not close
         Pin::PartOut { .. } => {}
         Pin::BlockIn { .. } => {}
     }

@@ -5,7 +5,7 @@ use names::name::Name;
 pub struct Block {
     pub name: Name,
     // the block that holds it; the board holds itself
-    // kept: no Option: a way up ends at block 0, and the rule that a block comes after its parent speaks of a number
+    // kept: a number, and no Option, since the field is public
     pub parent: usize,
     // the board is 1
     pub depth: u8,

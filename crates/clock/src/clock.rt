@@ -15,6 +15,7 @@ pub trait Clock: Copy {
     fn wait(ticks: u32) -> Self
         ensures is_the_wait { result ≡ time.wait ticks };
 
+    // kept: a method of the public interface, by which the laws speak of the order; each clock answers it by its derived one
     fn not_after(self, other: Self) -> bool
         ensures is_the_order { result ≡ time.leq self other };
 

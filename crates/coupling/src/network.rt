@@ -5,6 +5,7 @@ ghost use Rattle.coupling.specs.Rows.{row_at, set_of};
 use crate::rows::Row;
 
 // A row for each board input, 0 to 7, and then for each output pin of each part in turn.
+// kept: one list of rows, eight for each source, since its invariants are public
 #[derive(Drop)]
 pub struct Network {
     pub parts: usize,

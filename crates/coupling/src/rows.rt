@@ -9,6 +9,7 @@ pub const PARTS: usize = 64;
 // A pin set is a byte, bit k for pin k.
 #[derive(Clone, Copy)]
 pub struct Row {
+    // kept: an array, and no Vec: a row is copied and joined without heap
     pub sets: [u8; 64],
     pub board: u8,
 }
@@ -28,7 +29,7 @@ impl Row {
         ensures reaches_what_either_does { Joins self other.now result }
     {
         let mut sets = self.sets;
-        // kept: numbered, and no `zip`: after `zip` over `iter_mut` the check has no name for what was written
+        // kept: numbered, and no `zip`: the proof did not close, since no fact says what `zip` over `iter_mut` wrote
         'parts: for (part, set) in sets.iter_mut().enumerate() {
             *set |= other.sets[part];
         }

@@ -30,6 +30,7 @@ pub(crate) enum Side {
 }
 
 // A child that is looked for: of this block, of this name, with at least so many pins.
+// kept: beside Component, which has so many pins, while this asks for at least so many
 #[derive(Clone, Copy)]
 pub struct Wanted {
     pub block: usize,

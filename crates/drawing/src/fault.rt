@@ -49,7 +49,7 @@ impl<T: Drop> From<AllocFailed<T>> for Fault {
 
 impl Fault {
     // The number of the question that the call failed; 0 where it is none.
-    // kept: 0, and no Option: it is a public promise, and what programs print
+    // kept: 0, and no Option, since this is a public promise
     pub fn number(self) -> u8
         ensures is_the_number { result ≡ fault_number self }
     {

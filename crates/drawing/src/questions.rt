@@ -59,8 +59,8 @@ fn are_apart(from: Pin, to: Pin) -> bool
     ensures value { result ≡ apart from to }
 {
     match (from, to) {
-        (Pin::PartOut { part: i, .. }, Pin::PartIn { part: j, .. }) => i != j,
-        (Pin::BlockOut { block: b, .. }, Pin::BlockIn { block: d, .. }) => b != d,
+        (Pin::PartOut { part: from, .. }, Pin::PartIn { part: to, .. }) => from != to,
+        (Pin::BlockOut { block: from, .. }, Pin::BlockIn { block: to, .. }) => from != to,
         (Pin::PartIn { .. }, _)
         | (_, Pin::PartOut { .. })
         | (Pin::BlockIn { .. }, Pin::BlockOut { .. }) => false,

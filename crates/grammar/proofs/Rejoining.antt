@@ -87,19 +87,6 @@ rejoined_split sep (b ∷ text) =
     (λ ne. ap (join_with_byte sep) (split_onto sep b text ne) ∙ rejoined_onto sep b (split sep text) ∙ ap (λ t. b ∷ t) (rejoined_split sep text))
     (cases_eq b sep)
 
-free_onto : (sep b : ℕ) (fs : List (List ℕ)) → (b ≡ sep → ⊥) → Each (Free sep) fs → Each (Free sep) (onto b fs)
-free_onto sep b [] ne free = ((ne, tt), tt)
-free_onto sep b (f ∷ fs) ne free = ((ne, free.0), free.1)
-
--- no piece has a separator
-pub split_frees : (sep : ℕ) (text : List ℕ) → Each (Free sep) (split sep text)
-split_frees sep [] = (tt, tt)
-split_frees sep (b ∷ text) =
-    ⊎_elim
-    (λ e. rw (split_here sep b text e) (tt, split_frees sep text))
-    (λ ne. rw (split_onto sep b text ne) (free_onto sep b (split sep text) ne (split_frees sep text)))
-    (cases_eq b sep)
-
 -- what holds of the separator and of each byte of the pieces holds of each byte of the whole
 pub all_rejoined : (P : ℕ → Type 0) (sep : ℕ) (fs : List (List ℕ)) → P sep → Each (Each P) fs → Each P (join_with_byte sep fs)
 all_rejoined P sep [] at each = tt

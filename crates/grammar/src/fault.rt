@@ -15,7 +15,7 @@ pub enum Layer {
 // The question that a file fails, and where: line and field count from 1, and are 0 where there is none to name.
 #[derive(Clone, Copy, PartialEq, Eq, Debug)]
 pub struct Verdict {
-    // kept: a verdict is told in numbers, and its kinds are the faults below; its promise is public
+    // kept: numbers, and 0 for none: a verdict is told so, and is public; its kinds are the faults below
     pub number: u8,
     pub line: usize,
     pub field: usize,
@@ -45,7 +45,7 @@ pub enum LineFault {
     BadField { line: usize, field: usize },
 }
 
-// kept: by hand, since clauses read which fault it gives.
+// kept: by hand, since a derived `From` promises nothing, and clauses name this fault
 impl From<TextFault> for LineFault {
     ghost from_gives = { λ e r. r ≡ Text e };
 

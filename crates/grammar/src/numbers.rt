@@ -3,6 +3,7 @@ ghost use Rattle.std.specs.Prelude.{◌≡◌, ℕ, ◌<◌, decimal, MatchOptio
 ghost use Rattle.grammar.specs.Fields.{Numeral};
 
 // The number that a text of at most ten digits writes, without a leading zero.
+// kept: no `parse`, which also takes a plus sign and leading zeros
 pub fn natural(text: &[u8]) -> Option<u64>
     ensures reads_or_refuses { MatchOption result ((v : ℕ) → v < 10000000000 → decimal v ≢ text.now) (λ v. (v < 10000000000) × (decimal v ≡ text.now)) }
 {
@@ -23,7 +24,7 @@ pub fn natural(text: &[u8]) -> Option<u64>
 }
 
 // The number between low and high that a text writes.
-// kept: low and high apart, as this public function promises of them
+// kept: low and high apart, since this function is public
 pub fn number(text: &[u8], low: u16, high: u16) -> Option<u16>
     ensures reads_or_refuses { MatchOption result ((v : ℕ) → Numeral low high v text.now → ⊥) (λ v. Numeral low high v text.now) }
 {

@@ -138,6 +138,7 @@ pub fn item_line(line: &[u8], number: usize) -> Result<Statement, LineFault>
 }
 
 // What the line that opens the board says.
+// kept: a match for each of these three, so that the letters stand as literals
 pub fn board_line(line: &[u8], number: usize) -> Result<Statement, LineFault>
     ensures asks_in_order { BoardLine line.now number (judged line_verdict result) }
 {

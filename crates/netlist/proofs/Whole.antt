@@ -1,18 +1,16 @@
 -- A whole file: its first line, and its board.
-use Rattle.std.proofs.Common.{◌≡◌, ℕ, suc, ◌+◌, ◌-◌, ◌<◌, List, [], ◌∷◌, length, get_or, Ok, Err, Result, IsErrAnd, MatchResult, sym, refl, ap, ◌∙◌, subst, inl, inr, ⊎_elim, arith}
+use Rattle.std.proofs.Common.{◌≡◌, ℕ, suc, ◌+◌, ◌-◌, ◌<◌, List, [], ◌∷◌, length, get_or, Ok, Err, Result, sym, refl, ap, ◌∙◌, subst, inl, inr, ⊎_elim, arith}
 use Rattle.std.proofs.lemmas.Bool.{cases_eq}
 use Rattle.clock.specs.Time.{Time}
 use Rattle.drawing.specs.Calls.{sheet, blank}
 use Rattle.grammar.specs.declared.fault.LineFault.{LineFault}
 use Rattle.grammar.specs.declared.fault.LineFault.TheVariants.{Text}
-use Rattle.grammar.specs.declared.fault.TextFault.{TextFault}
 use Rattle.grammar.specs.declared.fault.TextFault.TheVariants.{BadSize}
 use Rattle.grammar.specs.declared.fault.Verdict.{Verdict}
 use Rattle.grammar.specs.declared.statement.Header.{Header}
 use Rattle.grammar.specs.Pieces.{split, onto}
 use Rattle.grammar.specs.Rules.{HeaderLine}
 use Rattle.grammar.specs.Verdicts.{line_verdict}
-use Rattle.grammar.proofs.Asking.{ok_err}
 use Rattle.grammar.proofs.Rejoining.{split_some}
 use Rattle.grammar.proofs.Splitting.{split_onto, split_here}
 use Rattle.netlist.specs.declared.blocks.Reader.{Reader}
@@ -23,7 +21,6 @@ use Rattle.netlist.specs.Files.{Reading, Goes, Sized, LinesGive}
 use Rattle.netlist.specs.Reads.{HeaderRead, BoardRead, FileStops, AllRead}
 use Rattle.netlist.specs.Steps.{Begins, Line, undrawn, FromHere}
 use Rattle.netlist.proofs.Going.{closed_here}
-use Rattle.netlist.proofs.Taken.{ok_same}
 
 onto_length : (b : ℕ) (pieces : List (List ℕ)) → 0 < length pieces → length (onto b pieces) ≡ length pieces
 onto_length b [] some = absurd (omega arith)
@@ -63,15 +60,8 @@ never_missing file before last b e =
 
 module _ {C : Type 0} (time : Time C) (file : List ℕ) where
   -- the file has no size that is read
-  pub size_stops : (r : Result Lines TextFault) (e : LineFault) → MatchResult r (λ lines. Begins file lines) (λ f. (Sized file → ⊥) × (f ≡ BadSize)) →
-      MatchResult r (λ lines. ◌≡◌ {A = Result Lines LineFault} (Err e) (Ok lines)) (λ f. IsErrAnd {T = Lines} (Err e) (λ y. y ≡ Text f)) → FileStops time file (block.Line e)
-  size_stops (Ok lines) e h c = absurd (ok_err lines e (sym c))
-  size_stops (Err f) e (bad, is) c = inr (line_verdict e, refl, inl (bad, ap (λ x. Err (line_verdict x)) (c ∙ ap Text is)))
-
-  pub begins : (r : Result Lines TextFault) (lines : Lines) → MatchResult r (λ lines. Begins file lines) (λ f. (Sized file → ⊥) × (f ≡ BadSize)) →
-      MatchResult r (λ x. ◌≡◌ {A = Result Lines LineFault} (Ok lines) (Ok x)) (λ f. IsErrAnd {T = Lines} (Ok lines) (λ y. y ≡ Text f)) → Begins file lines
-  begins (Ok x) lines h c = subst (Begins file) (ok_same lines x (sym c)) h
-  begins (Err f) lines h c = absurd c
+  pub size_stops : (e : LineFault) → (Sized file → ⊥) → e ≡ Text BadSize → FileStops time file (block.Line e)
+  size_stops e bad is = inr (line_verdict e, refl, inl (bad, ap (λ x. Err (line_verdict x)) is))
 
   module _ (before after : Lines) (b : Begins file before) where
     pub header_stops : (e : LineFault) → HeaderRead before after (Err e) → FileStops time file (block.Line e)

@@ -1,9 +1,13 @@
 // The reader of netlist files.
-ghost use Rattle.std.specs.Prelude.{◌≡◌, ◌≢◌, IfOk};
+ghost use Rattle.std.specs.Prelude.{◌≡◌, ◌≢◌, IfOk, MatchResult};
 ghost use Rattle.drawing.specs.Lists.{lists};
 ghost use Rattle.asking.specs.Asking.{Ask};
 ghost use Rattle.netlist.specs.declared.fault.BoardFault.TheVariants.{Disagrees};
+ghost use Rattle.grammar.specs.declared.fault.LineFault.TheVariants.{Text};
+ghost use Rattle.grammar.specs.declared.fault.TextFault.TheVariants.{BadSize};
+ghost use Rattle.netlist.specs.Files.{Sized};
 ghost use Rattle.netlist.specs.Netlists.{Sound};
+ghost use Rattle.netlist.specs.Steps.{Begins};
 ghost use Rattle.netlist.specs.Reads.{HeaderRead, BoardRead, AllRead, Agreed, Gives, AcceptsOnly, AcceptsEvery, Refuses, OneOutcome};
 
 use crate::blocks::Reader;
@@ -34,6 +38,13 @@ struct Drawn<C> {
     bytes: usize,
 }
 
+// The lines of a file that has a size that is read at all.
+fn lines_of(file: &[u8]) -> Result<Lines<'_>, LineFault>
+    ensures begins_or_refuses { MatchResult result (λ lines. Begins file.now lines) (λ e. (Sized file.now → ⊥) × (e ≡ Text BadSize)) }
+{
+    Ok(Lines::of(file)?)
+}
+
 // What the first line says.
 fn read_header(lines: &mut Lines) -> Result<Header, LineFault>
     ensures reads_or_refuses { HeaderRead lines.old lines.new result }
@@ -58,7 +69,7 @@ fn read_drawing<C: Clock>(lines: Lines<'_>, heap: Global) -> Result<Reader<'_, C
 fn read_all<C: Clock>(file: &[u8], heap: Global) -> Result<Drawn<C>, BlockFault>
     ensures reads_or_refuses { AllRead C.Clock.time file.now result }
 {
-    let mut lines = Lines::of(file).map_err(LineFault::from)?;
+    let mut lines = lines_of(file)?;
     let header = read_header(&mut lines)?;
     let Reader { lines, drawing } = read_drawing(lines, heap)?;
     Ok(Drawn {

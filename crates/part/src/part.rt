@@ -7,6 +7,7 @@ use clock::clock::Clock;
 // What a part puts on the bus when it fires. An empty pin set means that it fires silently.
 #[derive(Clone, Copy, PartialEq, Eq, Debug)]
 pub struct Output {
+    // kept: no Option: a pin set may be empty, and public promises name both numbers
     pub pins: u8,
     pub value: u8,
 }

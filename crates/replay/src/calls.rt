@@ -30,6 +30,7 @@ pub struct Lent<C> {
 }
 
 // What a call answers.
+// kept: no Result, since all five stand in the records that the caller lends, and are public
 #[derive(Clone, Copy)]
 pub enum Answer<C> {
     Done,

@@ -1,4 +1,5 @@
 // Calls made one after another, and what they leave.
+// kept: board, session, places and trace apart, since each call is lent other slices of places and trace
 ghost use Rattle.std.specs.Prelude.{◌≡◌, ◌<◌, ◌≤◌, length, drop};
 ghost use Rattle.session.specs.Machine.{model, memory};
 ghost use Rattle.session.specs.Calls.{traced, Kept, OnlyOutcome};
@@ -36,7 +37,6 @@ fn run_within<P: Part<C>, C: Clock, K: Coupling>(
 }
 
 // Makes a call on all the places given.
-// kept: no struct holds session and places together, since each call is lent places of its own
 fn make<P: Part<C>, C: Clock, K: Coupling>(
     coupling: &K,
     session: &mut Session<C>,
@@ -98,6 +98,7 @@ fn make_all<P: Part<C>, C: Clock, K: Coupling>(
 {
     let count = calls.len().min(answers.len());
     let mut events: usize = 0;
+    // kept: numbered, and no `zip`: the proof did not close, since no fact says what `zip` over `iter_mut` wrote
     'each: for (i, lent) in calls[..count].iter().enumerate() {
         let answer = lend(coupling, session, places, *lent, &mut trace[events..]);
         events += answer.events();

@@ -1,6 +1,6 @@
 // A call of a session, as a call file has it.
-// kept: beside the calls of replay, since a file can lend places for all later calls, and writes a run's room in 16 bits
 
+// kept: beside the calls of replay, since a file can lend places to all later calls, and writes a room in 16 bits
 #[derive(Clone, Copy, PartialEq, Eq, Debug)]
 pub enum Call<C> {
     Put { moment: C, pins: u8, value: u8 },

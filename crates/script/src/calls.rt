@@ -40,6 +40,7 @@ pub fn read_calls<C: Moment>(file: &[u8], heap: Global) -> Result<Vec<Call<C>>, 
 {
     let mut calls = Vec::new(heap);
     let mut rest = file;
+    // kept: no iterator of lines, since a last line without byte 10 must be told from one with it
     'lines: while !rest.is_empty() {
         let line = calls.len() + 1;
         let bad_line = ScriptFault::BadLine { line };

@@ -13,10 +13,10 @@ pub(crate) fn three_fields(text: &[u8]) -> Option<(&[u8], &[u8], &[u8])>
     let first = first_piece(text, b' ');
     let second = first_piece(first.rest?, b' ');
     let third = first_piece(second.rest?, b' ');
-    match third.rest {
-        None => Some((first.piece, second.piece, third.piece)),
-        Some(_) => None,
-    }
+    third
+        .rest
+        .is_none()
+        .then_some((first.piece, second.piece, third.piece))
 }
 
 // The number that a lower-case hexadecimal digit writes.

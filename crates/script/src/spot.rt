@@ -19,6 +19,7 @@ pub fn piece_at(text: &[u8], separator: u8, before: usize) -> Option<Piece<'_>>
 {
     let mut cut = first_piece(text, separator);
     let mut start = 0;
+    // kept: the bytes passed are part of the answer, which an iterator of pieces does not tell
     'pieces: for _ in 0..before {
         start += cut.piece.len() + 1;
         cut = first_piece(cut.rest?, separator);

@@ -19,6 +19,7 @@ fn output_pins<P: Part<C>, C: Clock>(places: &[Place<P, C>], part: usize) -> u8
 }
 
 // What fires next, or why the run stops, with so much budget and so many records left.
+// kept: the places and their coupling apart, since each call is lent its places anew
 pub(crate) fn decide<P: Part<C>, C: Clock, K: Coupling>(
     coupling: &K,
     places: &[Place<P, C>],

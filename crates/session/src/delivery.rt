@@ -43,7 +43,7 @@ pub(crate) fn deliver<P: Part<C>, C: Clock>(
     requires in_range { length places.old ≤ 64 }
     ensures gives_each_its_set { places.new ≡ delivered C.Clock.time P.Part.kind moment value (length places.old) (set_of row.now) places.old }
 {
-    // kept: numbered, and no `zip`: after `zip` over `iter_mut` the check has no name for what was written
+    // kept: numbered, and no `zip`: the proof did not close, since no fact says what `zip` over `iter_mut` wrote
     'parts: for (part, place) in places.iter_mut().enumerate() {
         *place = place.given(moment, row.sets[part], value);
     }

@@ -27,7 +27,7 @@ fn firings<P: Part<C>, C: Clock, K: Coupling>(
 {
     let mut steps: u16 = 0;
     let mut events: u16 = 0;
-    // kept: both counts are part of the answer, and one match says when the run stops, so a range or an iterator over the trace would only stand beside them
+    // kept: both counts are answered, and one match says when it stops; a range or an iterator would count again
     'firings: loop {
         let room = trace.len() - usize::from(events);
         match decide(coupling, places, horizon, budget - steps, room) {

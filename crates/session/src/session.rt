@@ -51,7 +51,7 @@ fn start<P: Part<C>, C: Clock>(places: &mut [Place<P, C>], starts: &[P])
     ensures starts_each { places.new ≡ map (λ s. record { part = s; last = C.Clock.time.zero }) starts.now }
 {
     let last = C::zero();
-    // kept: numbered, and no `zip`: after `zip` over `iter_mut` the check has no name for what was written
+    // kept: numbered, and no `zip`: the proof did not close, since no fact says what `zip` over `iter_mut` wrote
     'parts: for (i, place) in places.iter_mut().enumerate() {
         *place = Place {
             part: starts[i],

@@ -20,7 +20,7 @@ use Rattle.board.specs.declared.parts.Component.{Component}
 use Rattle.board.specs.declared.plan.Plan.{Plan}
 use Rattle.board.proofs.PinSets.{empty_set, none_has, same_set}
 use Rattle.board.proofs.Routes.{Sound, Fine, fine, part_out, part_in, never_itself, ends_there, joined_fine}
-use Rattle.board.proofs.Sweeping.{swept_none, swept_skips, swept_turn, swept_adds, from_small, to_small, from_place, to_place, nothing_hits}
+use Rattle.board.proofs.Sweeping.{swept_none, swept_skips, swept_adds, nothing_hits}
 
 -- the plan's invariant, over its lists
 pub plan_sound : (plan : Plan) → Sound (vec_items plan.blocks) (vec_items plan.components) (vec_items plan.wires)
@@ -37,9 +37,6 @@ rank_small m (PartIn i k) h l = omega arith
 rank_small m (PartOut i k) h l = omega arith
 rank_small m (BlockIn b k) h l = omega arith
 rank_small m (BlockOut b k) h l = omega arith
-
-pub rank_fits : (m : ℕ) (p : Pin) (r turn : ℕ) → Small p → m ≤ 32 → r ≡ rank m p → turn ≤ 64 → r + turn ≤ 129
-rank_fits m p r turn h l e t = omega (arith, e, rank_small m p h l, t)
 
 -- the first wire of a path
 first_wire : (W : List Wire) {p q : Pin} → Leads W p q → (y : Pin) × Joined W p y
@@ -59,30 +56,12 @@ module _ (plan : Plan) (W : List Wire) (ew : W ≡ vec_items plan.wires) where
   fine_wire : (w : ℕ) → w < length W → Fine B P (wire_at W w).from (wire_at W w).to
   fine_wire w l = fine B P (wire_at W w) (lent_sound.wires_sound w l)
 
-  pub small_from : (w : ℕ) → w < length W → Small (wire_at W w).from
-  small_from w l =
-      from_small B P W lent_sound (omega (arith, plan.few_components, plan.components.ok.0)) (omega (arith, plan.few_blocks, plan.blocks.ok.0)) (wire_at W w).from (fine_wire w l).from_there
-
-  pub small_to : (w : ℕ) → w < length W → Small (wire_at W w).to
-  small_to w l =
-      to_small B P W lent_sound (omega (arith, plan.few_components, plan.components.ok.0)) (omega (arith, plan.few_blocks, plan.blocks.ok.0)) (wire_at W w).to (fine_wire w l).to_there
-
   module _ (n m : ℕ) (en : n ≡ vec_len plan.components) (em : m ≡ vec_len plan.blocks) where
     parts_are : length P ≡ n
     parts_are = sym (en ∙ plan.components.ok.0)
 
     blocks_are : length B ≡ m
     blocks_are = sym (em ∙ plan.blocks.ok.0)
-
-    pub has_from : (w : ℕ) (rows : List Row) → w < length W → length rows ≡ 8 * (n + m + m) + 1 → place n m (wire_at W w).from < length rows
-    has_from w rows l =
-        subst₂ (λ a b. length rows ≡ 8 * (a + b + b) + 1 → place a b (wire_at W w).from < length rows) parts_are blocks_are
-        (λ e. from_place B P W lent_sound rows (wire_at W w).from e (fine_wire w l).from_there)
-
-    pub has_to : (w : ℕ) (rows : List Row) → w < length W → length rows ≡ 8 * (n + m + m) + 1 → place n m (wire_at W w).to < length rows
-    has_to w rows l =
-        subst₂ (λ a b. length rows ≡ 8 * (a + b + b) + 1 → place a b (wire_at W w).to < length rows) parts_are blocks_are
-        (λ e. to_place B P W lent_sound rows (wire_at W w).to e (fine_wire w l).to_there)
 
     pub none_yet : (rows : List Row) → length rows ≡ 8 * (n + m + m) + 1 → ((r : ℕ) → row_at rows r ≡ nothing) → Swept W n m 0 0 rows
     none_yet rows =
@@ -93,11 +72,6 @@ module _ (plan : Plan) (W : List Wire) (ew : W ≡ vec_items plan.wires) where
     skips turn w rows =
         subst₂ (λ a b. Swept W a b turn w rows → (rank b (wire_at W w).from + turn ≡ b + b → ⊥) → Swept W a b turn (w + 1) rows) parts_are blocks_are
         (swept_skips B P W lent_sound turn w rows)
-
-    pub next_turn : (turn : ℕ) (rows : List Row) → Swept W n m turn (length W) rows → Swept W n m (turn + 1) 0 rows
-    next_turn turn rows =
-        subst₂ (λ a b. Swept W a b turn (length W) rows → Swept W a b (turn + 1) 0 rows) parts_are blocks_are
-        (swept_turn B P W lent_sound turn rows)
 
     pub adds : (turn w : ℕ) (rows after : List Row) → w < length W → Swept W n m turn w rows → rank m (wire_at W w).from + turn ≡ m + m →
         Extended rows (place n m (wire_at W w).from) (place n m (wire_at W w).to) (wire_at W w).to after → Swept W n m turn (w + 1) after

@@ -7,7 +7,7 @@ ghost use Rattle.coupling.specs.Networks.{wired, Bare, Unbuildable, Wired, Unwir
 use crate::coupling::{Coupling, Source};
 use crate::network::Network;
 use crate::rows::{PARTS, Row, union};
-use std::alloc::{AllocError, AllocFailed, Global};
+use std::alloc::{AllocError, Global};
 
 // Where a wire of the flattened network leads: an input pin of a part, or an output pin of the board.
 #[derive(Clone, Copy)]

@@ -1,22 +1,13 @@
-use Rattle.std.proofs.Common.{◌≡◌, ◌+◌, ◌-◌, ◌<◌, ◌≤◌, ◌++◌, length, get_or, take, drop, set, sym, refl, ap, ◌∙◌, subst, arith, rules}
-use Rattle.std.proofs.lemmas.List.{take_rest, length-drop, get_or-take, length-take-le}
+use Rattle.std.proofs.Common.{◌≡◌, ◌+◌, ◌-◌, ◌<◌, ◌++◌, length, get_or, take, drop, set, sym, refl, ◌∙◌, subst, arith, rules}
+use Rattle.std.proofs.lemmas.List.{take_rest, get_or-take, length-take-le}
 use Rattle.session.specs.Machine.{model}
-use Rattle.replay.specs.Replays.{own, loan, tells}
-use Rattle.replay.proofs.Listing.{Sofar, at_start, at_end, after_call, tells_fits}
+use Rattle.replay.specs.Replays.{own, loan}
+use Rattle.replay.proofs.Listing.{Sofar, at_start, at_end, after_call}
 use Rattle.replay.proofs.Opening.{put_last}
 use Rattle.replay.proofs.replay.make_all.Goals as goal
 
 pub each-init : goal.each-init
 each-init g c = at_start _ c.args.calls.now _
-
-pub overflow_add-events : goal.overflow_add-events
-overflow_add-events g c =
-    let M = model g.C.Clock.time g.P.Part.kind (g.K.Coupling.wiring c.args.coupling.now) in
-    let rest = take (length c.each.trace - c.each.events) (drop c.each.events c.each.trace) in
-    let fits : tells c.lend-answer.result ≤ length rest =
-    tells_fits M c.lent-item.result rest c.lend-answer.new.trace c.lend-answer.result c.lend-answer.ensures.the_machine_makes_it c.lend-answer.auto.trace in
-    let long = ap length (take_rest c.each.trace c.each.events) ∙ length-drop c.each.events c.each.trace in
-    omega (arith, fits, long, c.events-events.ensures.is_the_count_of_a_run, c.each.invariant.in_trace, c.each.auto.trace)
 
 pub bounds-answers-i : goal.bounds-answers-i
 bounds-answers-i g c =

@@ -2,7 +2,7 @@ use Rattle.std.proofs.Common.{◌≡◌, ℕ, ◌+◌, ◌-◌, ◌<◌, length,
 use Rattle.std.proofs.lemmas.Bool.{cases_lt}
 use Rattle.session.specs.Machine.{model, memory}
 use Rattle.session.specs.Calls.{traced, Halts}
-use Rattle.session.proofs.Running.{Sofar, at_start, at_halt, after_silent, after_event, ready_inside, event_pins}
+use Rattle.session.proofs.Running.{Sofar, at_start, at_halt, after_silent, after_event, event_pins}
 use Rattle.session.proofs.run.firings.Goals as goal
 
 pub firings-init : goal.firings-init
@@ -16,11 +16,6 @@ returns-in-Err g c =
       runs = at_halt M c.args.horizon c.args.budget _ c.firings.steps c.firings.events _ c.in-Err.stop c.firings.invariant
           (subst (λ n. Halts M c.args.horizon (c.args.budget - c.firings.steps) n c.firings.places c.in-Err.stop) room c.in-Err.ensures.decides_as_the_rules_say);
     }
-
-pub fire-event-requires : goal.fire-event-requires
-fire-event-requires g c =
-    let M = model g.C.Clock.time g.P.Part.kind (g.K.Coupling.wiring c.args.coupling.now) in
-    record { has_a_place = (omega (arith, c.requires.has_places, c.firings.auto.places), ready_inside M c.args.horizon _ _ _ _ c.in-Ok.ensures.decides_as_the_rules_say.0) }
 
 -- a firing with output goes on only if a record is free
 free_record : (records events room pins told : ℕ) → room ≡ records - events → 0 < pins → pins ≡ told → (room ≡ 0 → told ≡ 0) → events < records

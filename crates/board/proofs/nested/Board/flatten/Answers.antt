@@ -1,5 +1,5 @@
 use Rattle.std.proofs.Common.{◌≡◌, ℕ, ◌+◌, ◌*◌, ◌<◌, ◌≤◌, List, length, get_or, take, vec_items, vec_len, sym, refl, ap, ◌∙◌, subst, arith}
-use Rattle.std.proofs.lemmas.List.{length-replicate, take_at, get_or_default}
+use Rattle.std.proofs.lemmas.List.{length-replicate, get_or_default}
 use Rattle.coupling.specs.Networks.{first_row}
 use Rattle.coupling.specs.Wiring.{Wiring}
 use Rattle.coupling.specs.declared.rows.Row.{Row}
@@ -10,7 +10,7 @@ use Rattle.std.proofs.lemmas.Result.{err_from_is_err_and}
 use Rattle.coupling.specs.Rows.{nothing, row_at, set_of}
 use Rattle.coupling.proofs.Wiring.{blank_row}
 use Rattle.board.specs.Sweep.{Swept}
-use Rattle.board.proofs.Flattening.{none_yet, next_turn, plan_sound, flat_part, flat_board, flat_itself, flat_absent, flat_long, few_parts, swept_moved, agrees}
+use Rattle.board.proofs.Flattening.{none_yet, plan_sound, flat_part, flat_board, flat_itself, flat_absent, flat_long, few_parts, swept_moved, agrees}
 use Rattle.board.proofs.Routes.{never_itself}
 use Rattle.board.proofs.nested.Board.flatten.Goals as goal
 
@@ -37,13 +37,6 @@ pub turns-init : goal.turns-init
 turns-init g c =
     let made = c.in_ok-rows.ensures.reach_nothing in
     none_yet c.args.self.now.plan _ refl _ _ refl refl _ (omega (arith, ap length made ∙ length-replicate _ _)) (λ r. ap (λ l. get_or l r nothing) made ∙ blank_row _ r)
-
-pub turns-preserved : goal.turns-preserved
-turns-preserved g c =
-    let plan = c.args.self.now.plan in
-    let same : length c.sweep.new.rows ≡ c.turns.rows.len = omega (arith, c.sweep.ensures.after.long, c.turns.invariant.long, c.turns.rows.ok.0) in
-    subst (Swept (vec_items plan.wires) (vec_len plan.components) (vec_len plan.blocks) (c.turns.turn + 1) 0) (sym (take_at c.sweep.new.rows _ _ same))
-    (next_turn plan _ refl _ _ refl refl c.turns.turn _ c.sweep.ensures.after)
 
 pub invariant_of-result : goal.invariant_of-result
 invariant_of-result g c =

@@ -5,12 +5,11 @@ use crate::trouble::Trouble;
 use grammar::word::Word;
 use script::option_word::OptionWord;
 use script::options::Settings;
-use std::alloc::Global;
 use std::env;
 
 // The words after the program's name.
-pub fn words(rt: &HostRuntime, heap: Global) -> Result<Vec<String>, Trouble> {
-    Ok(env::args(rt)?.skip(1).collect(heap)?)
+pub fn words(rt: &HostRuntime) -> Result<Vec<String>, Trouble> {
+    Ok(env::args(rt)?.skip(1).collect(rt.alloc())?)
 }
 
 // The settings so far, and the words that are left.

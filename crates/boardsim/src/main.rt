@@ -1,5 +1,4 @@
 // Checks, runs and plays boards that are written as netlist files.
-// kept: the handle and the heap are passed apart, since what only allocates is given no handle
 #![tactic(auto)]
 
 mod arguments;
@@ -22,16 +21,16 @@ use grammar::word::Word;
 use script::clock_word::ClockWord;
 use script::command::Command;
 use script::option_word::OptionWord;
-use std::alloc::Global;
 
-fn run_words(rt: &HostRuntime, heap: Global, words: &[String]) -> Result<(), Trouble> {
+fn run_words(rt: &HostRuntime, words: &[String]) -> Result<(), Trouble> {
     let [path, options @ ..] = words else {
         return Err(Trouble::Usage);
     };
     let settings = arguments::settings(options)?;
+    // kept: a match, since a type is no value to pass on
     match settings.clock {
-        ClockWord::Superdense => run::<Dense>(rt, heap, path.as_str(), settings),
-        ClockWord::Plain => run::<Ticks>(rt, heap, path.as_str(), settings),
+        ClockWord::Superdense => run::<Dense>(rt, path.as_str(), settings),
+        ClockWord::Plain => run::<Ticks>(rt, path.as_str(), settings),
     }
 }
 
@@ -46,38 +45,38 @@ fn clock_word(options: &[String]) -> Result<ClockWord, Trouble> {
     }
 }
 
-fn play_words(rt: &HostRuntime, heap: Global, words: &[String]) -> Result<(), Trouble> {
+fn play_words(rt: &HostRuntime, words: &[String]) -> Result<(), Trouble> {
     let [path, calls, options @ ..] = words else {
         return Err(Trouble::Usage);
     };
+    // kept: a match, since a type is no value to pass on
     match clock_word(options)? {
-        ClockWord::Superdense => play::<Dense>(rt, heap, path.as_str(), calls.as_str()),
-        ClockWord::Plain => play::<Ticks>(rt, heap, path.as_str(), calls.as_str()),
+        ClockWord::Superdense => play::<Dense>(rt, path.as_str(), calls.as_str()),
+        ClockWord::Plain => play::<Ticks>(rt, path.as_str(), calls.as_str()),
     }
 }
 
 // One command with its words.
-fn command(rt: &HostRuntime, heap: Global, words: &[String]) -> Result<(), Trouble> {
+fn command(rt: &HostRuntime, words: &[String]) -> Result<(), Trouble> {
     let [first, rest @ ..] = words else {
         return show::usage(rt);
     };
     match Command::named(first.as_bytes()).ok_or(Trouble::Usage)? {
         Command::Help => show::usage(rt),
         Command::Check => match rest {
-            [path] => check(rt, heap, path.as_str()),
+            [path] => check(rt, path.as_str()),
             _ => Err(Trouble::Usage),
         },
-        Command::Run => run_words(rt, heap, rest),
-        Command::Play => play_words(rt, heap, rest),
+        Command::Run => run_words(rt, rest),
+        Command::Play => play_words(rt, rest),
     }
 }
 
 // The commands, one after another, to the first that is not carried out.
 fn work(rt: &HostRuntime) -> Result<(), Trouble> {
-    let heap = rt.alloc();
-    let words = arguments::words(rt, heap)?;
+    let words = arguments::words(rt)?;
     for words in words.split(|word| word.as_str() == "then") {
-        command(rt, heap, words)?;
+        command(rt, words)?;
     }
     Ok(())
 }

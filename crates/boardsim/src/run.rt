@@ -6,10 +6,9 @@ use board::nested::Board;
 use part::catalogue::Catalogue;
 use script::moment::Moment;
 use script::options::Settings;
-use session::answers::Stop;
+use session::answers::{Ran, Stop};
 use session::places::Event;
 use session::session::Session;
-use std::alloc::Global;
 
 // The steps of one call of run, and its trace records.
 const CHUNK: u16 = 4096;
@@ -30,27 +29,31 @@ impl Total {
         if turn % TELL != TELL - 1 {
             return Ok(());
         }
-        let steps = self.steps;
-        let events = self.events;
+        let Total { steps, events } = self;
         eprintln!(rt; "{steps} steps, {events} events, now {now}")?;
         Ok(())
     }
 
     fn print(self, rt: &HostRuntime, stop: Stop) -> Result<(), Trouble> {
-        let steps = self.steps;
-        let events = self.events;
+        let Total { steps, events } = self;
         let number = stop.number();
         println!(rt; "{steps} steps, {events} events, stopped for reason {number}: {stop}.")?;
         Ok(())
     }
 }
 
+// Prints the events of one call, unless a summary is wanted.
+// kept: the trace and the count of its records, since it did not prove at the call that the count is within the trace
 fn print_events<C: Moment>(
     rt: &HostRuntime,
+    settings: Settings<'_>,
     paths: &[String],
     trace: &[Event<C>],
     events: u16,
 ) -> Result<(), Trouble> {
+    if settings.summary {
+        return Ok(());
+    }
     for event in trace.iter().take(usize::from(events)) {
         show::event(rt, paths, event)?;
     }
@@ -59,15 +62,14 @@ fn print_events<C: Moment>(
 
 fn simulate<C: Moment>(
     rt: &HostRuntime,
-    heap: Global,
     board: &Board<Catalogue<C>>,
     horizon: C,
     settings: Settings<'_>,
 ) -> Result<(), Trouble> {
-    let network = board.flatten(heap)?;
-    let paths = show::paths(heap, board)?;
-    let mut places = spare::places(heap, board.starts().len())?;
-    let mut trace = spare::trace(heap, CHUNK)?;
+    let network = board.flatten(rt.alloc())?;
+    let paths = show::paths(rt.alloc(), board)?;
+    let mut places = spare::places(rt.alloc(), board.starts().len())?;
+    let mut trace = spare::trace(rt.alloc(), CHUNK)?;
     let mut session = Session::new();
     session.open(&network, places.as_mut_slice(), board.starts())?;
     let mut total = Total {
@@ -77,36 +79,34 @@ fn simulate<C: Moment>(
     let turns = (settings.budget / u64::from(CHUNK)).saturating_add(1);
     for turn in 0..turns {
         let left = settings.budget.saturating_sub(total.steps);
-        let budget = left.min(u64::from(CHUNK)) as u16;
-        let ran = session.run(
+        let budget = u16::try_from(left).map_or(CHUNK, |left| left.min(CHUNK));
+        let Ran {
+            steps,
+            events,
+            stop,
+        } = session.run(
             &network,
             places.as_mut_slice(),
             horizon,
             budget,
             trace.as_mut_slice(),
         )?;
-        let shown = if settings.summary { 0 } else { ran.events };
-        print_events(rt, paths.as_slice(), trace.as_slice(), shown)?;
-        total.steps = total.steps.saturating_add(u64::from(ran.steps));
-        total.events = total.events.saturating_add(u64::from(ran.events));
-        if ran.stop != Stop::Budget {
-            return total.print(rt, ran.stop);
+        print_events(rt, settings, paths.as_slice(), trace.as_slice(), events)?;
+        total.steps = total.steps.saturating_add(u64::from(steps));
+        total.events = total.events.saturating_add(u64::from(events));
+        if stop != Stop::Budget {
+            return total.print(rt, stop);
         }
         total.tell(rt, turn, session.now)?;
     }
     total.print(rt, Stop::Budget)
 }
 
-pub fn run<C: Moment>(
-    rt: &HostRuntime,
-    heap: Global,
-    path: &str,
-    settings: Settings<'_>,
-) -> Result<(), Trouble> {
+pub fn run<C: Moment>(rt: &HostRuntime, path: &str, settings: Settings<'_>) -> Result<(), Trouble> {
     let horizon = match settings.until {
         Some(text) => C::read(text).ok_or(Trouble::Until)?,
         None => C::ceiling(),
     };
-    let netlist = board_of(rt, heap, path)?;
-    simulate(rt, heap, &netlist.board, horizon, settings)
+    let netlist = board_of(rt, path)?;
+    simulate(rt, &netlist.board, horizon, settings)
 }

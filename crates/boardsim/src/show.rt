@@ -124,74 +124,75 @@ fn piece(text: &[u8], separator: u8, number: usize) -> Option<Piece<'_>> {
     piece_at(text, separator, number.checked_sub(1)?)
 }
 
-// Quotes a line, and points at its field.
-fn quote(
-    rt: &HostRuntime,
-    heap: Global,
-    file: &[u8],
-    line: usize,
-    field: usize,
-) -> Result<(), Trouble> {
-    let Some(whole) = piece(file, b'\n', line) else {
-        return Ok(());
-    };
-    if whole.text.is_empty() {
-        return Ok(());
-    }
-    let text = String::from_utf8_lossy(heap, &whole.text[..whole.text.len().min(QUOTED)])?;
-    eprintln!(rt; "    {text}")?;
-    if let Some(part) = piece(whole.text, b' ', field) {
-        let spaces = " ".repeat(heap, part.start.min(QUOTED))?;
-        let carets = "^".repeat(heap, part.text.len().min(QUOTED))?;
-        eprintln!(rt; "    {spaces}{carets}")?;
-    }
-    Ok(())
+// A file that a command names, and what stands in it.
+#[derive(Clone, Copy)]
+pub struct FileText<'a> {
+    pub path: &'a str,
+    pub bytes: &'a [u8],
 }
 
-// The file, and the line if there is one to name.
-fn print_place(rt: &HostRuntime, path: &str, line: usize) -> Result<(), Trouble> {
-    eprint!(rt; "{path}")?;
-    if line > 0 {
-        eprint!(rt; ", line {line}")?;
+impl<'a> FileText<'a> {
+    // Quotes a line, and points at its field.
+    fn quote(self, rt: &HostRuntime, line: usize, field: usize) -> Result<(), Trouble> {
+        let Some(whole) = piece(self.bytes, b'\n', line) else {
+            return Ok(());
+        };
+        if whole.text.is_empty() {
+            return Ok(());
+        }
+        let quoted = &whole.text[..whole.text.len().min(QUOTED)];
+        let text = String::from_utf8_lossy(rt.alloc(), quoted)?;
+        eprintln!(rt; "    {text}")?;
+        if let Some(part) = piece(whole.text, b' ', field) {
+            let spaces = " ".repeat(rt.alloc(), part.start.min(QUOTED))?;
+            let carets = "^".repeat(rt.alloc(), part.text.len().min(QUOTED))?;
+            eprintln!(rt; "    {spaces}{carets}")?;
+        }
+        Ok(())
     }
-    Ok(())
-}
 
-// Says why a netlist file is refused, where, and what to do next.
-pub fn explain(
-    rt: &HostRuntime,
-    heap: Global,
-    path: &str,
-    file: &[u8],
-    fault: BoardFault,
-    verdict: Verdict,
-) -> Result<(), Trouble> {
-    let Advice { wrong, next } = board_advice(fault).ok_or(Trouble::Reader)?;
-    let number = verdict.number;
-    let line = verdict.line;
-    print_place(rt, path, line)?;
-    eprintln!(rt; ": question {number} is answered no: {wrong}.")?;
-    quote(rt, heap, file, line, verdict.field)?;
-    eprintln!(rt; "{next}")?;
-    Ok(())
-}
+    // The file, and the line if there is one to name.
+    fn print_place(self, rt: &HostRuntime, line: usize) -> Result<(), Trouble> {
+        eprint!(rt; "{}", self.path)?;
+        if line > 0 {
+            eprint!(rt; ", line {line}")?;
+        }
+        Ok(())
+    }
 
-// Says which line of a call file is no call.
-pub fn explain_call(
-    rt: &HostRuntime,
-    heap: Global,
-    path: &str,
-    file: &[u8],
-    line: usize,
-) -> Result<(), Trouble> {
-    eprintln!(rt;
-        "{path}, line {line}: this is no call, or does not end with a newline; no call was made."
-    )?;
-    quote(rt, heap, file, line, 0)?;
-    eprintln!(rt;
-        "Write put MOMENT PINS VALUE, step, next, run HORIZON BUDGET ROOM or lend PLACES, one a line, with MOMENT as the clock has it."
-    )?;
-    Ok(())
+    // Says why a netlist file is refused, where, and what to do next.
+    pub fn explain(
+        self,
+        rt: &HostRuntime,
+        fault: BoardFault,
+        verdict: Verdict,
+    ) -> Result<(), Trouble> {
+        let Advice { wrong, next } = board_advice(fault).ok_or(Trouble::Reader)?;
+        let Verdict {
+            number,
+            line,
+            field,
+            layer: _,
+        } = verdict;
+        self.print_place(rt, line)?;
+        eprintln!(rt; ": question {number} is answered no: {wrong}.")?;
+        self.quote(rt, line, field)?;
+        eprintln!(rt; "{next}")?;
+        Ok(())
+    }
+
+    // Says which line of a call file is no call.
+    pub fn explain_call(self, rt: &HostRuntime, line: usize) -> Result<(), Trouble> {
+        let path = self.path;
+        eprintln!(rt;
+            "{path}, line {line}: this is no call, or does not end with a newline; no call was made."
+        )?;
+        self.quote(rt, line, 0)?;
+        eprintln!(rt;
+            "Write put MOMENT PINS VALUE, step, next, run HORIZON BUDGET ROOM or lend PLACES, one a line, with MOMENT as the clock has it."
+        )?;
+        Ok(())
+    }
 }
 
 // The paths of a board's parts, by their numbers.
@@ -209,12 +210,15 @@ pub fn event<C: Moment>(
     paths: &[String],
     event: &Event<C>,
 ) -> Result<(), Trouble> {
-    let moment = event.moment;
-    let value = event.value;
-    let pins = event.pins;
-    let outputs = event.board;
-    if let Some(path) = paths.get(event.part) {
-        println!(rt; "{moment} {path} pins {pins:02x} value {value} board pins {outputs:02x}")?;
+    let Event {
+        moment,
+        part,
+        pins,
+        value,
+        board,
+    } = *event;
+    if let Some(path) = paths.get(part) {
+        println!(rt; "{moment} {path} pins {pins:02x} value {value} board pins {board:02x}")?;
     }
     Ok(())
 }

@@ -23,6 +23,7 @@ fn once(byte: u8, rest: &[u8]) -> Run<'_>
     }
 }
 
+// kept: cases are read by code of their own, so that they share no fault with the libraries
 fn hexadecimal(digit: u8) -> Option<u8>
     ensures below_16 { IfSome result (λ number. number < 16) }
 {
@@ -84,9 +85,8 @@ pub fn decoded(heap: Global, text: &[u8]) -> Result<Vec<u8>, Trouble> {
     let mut left = text;
     'runs: while let [first, rest @ ..] = left {
         let run = next_run(*first, rest).ok_or(Trouble::Escape)?;
-        for _ in 0..run.count {
-            bytes.push(run.byte)?;
-        }
+        let length = bytes.len().saturating_add(run.count as usize);
+        bytes.resize(length, run.byte)?;
         left = run.rest;
     }
     Ok(bytes)

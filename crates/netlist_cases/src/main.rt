@@ -11,10 +11,10 @@ use netlist::reader::{Netlist, read_board};
 use std::io::{BufRead, BufReader};
 
 fn accepted(rt: &HostRuntime, name: &str, netlist: &Netlist<Dense>) -> Result<(), Trouble> {
-    let blocks = netlist.board.plan.blocks.len();
-    let parts = netlist.board.plan.components.len();
-    let wires = netlist.board.plan.wires.len();
-    let bytes = netlist.bytes;
+    let Netlist { board, bytes } = netlist;
+    let blocks = board.plan.blocks.len();
+    let parts = board.plan.components.len();
+    let wires = board.plan.wires.len();
     println!(rt; "{name}: accepted {blocks} {parts} {wires} {bytes}")?;
     Ok(())
 }
@@ -34,6 +34,7 @@ fn try_case(rt: &HostRuntime, case: &str) -> Result<(), Trouble> {
 }
 
 fn work(rt: &HostRuntime) -> Result<(), Trouble> {
+    // kept: a loop, since each case is left by `?`, and a fold over them would be no plainer
     let mut count = 0u64;
     for line in BufReader::new(rt.alloc(), rt.stdin())?.lines(rt.alloc()) {
         try_case(rt, line?.as_str())?;

@@ -10,6 +10,7 @@ use part::generator::Gen;
 use part::line::Line;
 use std::alloc::Global;
 
+// kept: the names and parts are made here, since the example stands alone, so that a reader needs no other program to follow it
 pub fn name(text: &[u8]) -> Result<Name, Trouble> {
     Name::new(text).ok_or(Trouble::Name)
 }

@@ -37,6 +37,7 @@ fn simulated(
 
 fn work(rt: &HostRuntime) -> Result<(), Trouble> {
     let heap = rt.alloc();
+    // kept: the example stands alone, so that a reader needs no other program to follow it
     let blank = Event {
         moment: Dense::zero(),
         part: 0,
@@ -47,10 +48,10 @@ fn work(rt: &HostRuntime) -> Result<(), Trouble> {
     let mut trace = [blank; 9];
     let board = drawn::example(heap)?;
     let ran = simulated(heap, &board, &mut trace)?;
-    report(rt, heap, &board, ran, &trace)?;
+    report(rt, &board, ran, &trace)?;
     let second = deep::board(heap)?;
     let network = second.flatten(heap)?;
-    report_rows(rt, heap, &second, &network)?;
+    report_rows(rt, &second, &network)?;
     Ok(())
 }
 

@@ -10,6 +10,7 @@ use session::places::Event;
 use std::alloc::{AllocError, Global};
 
 // The paths of a board's parts, by their numbers.
+// kept: the example stands alone, so that a reader needs no other program to follow it
 fn paths(heap: Global, board: &Board<Catalogue<Dense>>) -> Result<Vec<String>, AllocError> {
     (0..board.starts().len())
         .map(|part| -> Result<String, AllocError> {
@@ -24,18 +25,20 @@ fn path_of(paths: &[String], part: usize) -> &str {
 }
 
 fn print_event(rt: &HostRuntime, paths: &[String], event: &Event<Dense>) -> Result<(), Trouble> {
-    let moment = event.moment;
-    let value = event.value;
-    let pins = event.pins;
-    let outputs = event.board;
-    let path = path_of(paths, event.part);
-    println!(rt; "{path} {value} at {moment} (its pins {pins:02x}, board pins {outputs:02x})")?;
+    let Event {
+        moment,
+        part,
+        pins,
+        value,
+        board,
+    } = *event;
+    let path = path_of(paths, part);
+    println!(rt; "{path} {value} at {moment} (its pins {pins:02x}, board pins {board:02x})")?;
     Ok(())
 }
 
 pub fn report(
     rt: &HostRuntime,
-    heap: Global,
     board: &Board<Catalogue<Dense>>,
     ran: Ran,
     trace: &[Event<Dense>],
@@ -46,13 +49,15 @@ pub fn report(
     println!(rt;
         "in which delay line a (4 ticks) feeds the board's output pin 0. Run from opening to 12:0:"
     )?;
-    let paths = paths(heap, board)?;
-    for event in trace.iter().take(usize::from(ran.events)) {
+    let paths = paths(rt.alloc(), board)?;
+    let Ran {
+        steps,
+        events,
+        stop,
+    } = ran;
+    for event in trace.iter().take(usize::from(events)) {
         print_event(rt, paths.as_slice(), event)?;
     }
-    let steps = ran.steps;
-    let events = ran.events;
-    let stop = ran.stop;
     let number = stop.number();
     println!(rt; "{steps} steps, {events} events, stopped for reason {number}: {stop}.")?;
     Ok(())
@@ -79,21 +84,19 @@ fn print_row(
             print!(rt; " {path} ({pins:02x})")?;
         }
     }
-    let outputs = row.board;
-    println!(rt; " board pins {outputs:02x}")?;
+    println!(rt; " board pins {:02x}", row.board)?;
     Ok(())
 }
 
 pub fn report_rows(
     rt: &HostRuntime,
-    heap: Global,
     board: &Board<Catalogue<Dense>>,
     network: &Network,
 ) -> Result<(), Trouble> {
     println!(rt;
         "The second board is four blocks deep; flattened, a pin reaches each pin to which a path of wires leads:"
     )?;
-    let paths = paths(heap, board)?;
+    let paths = paths(rt.alloc(), board)?;
     let paths = paths.as_slice();
     print_row(rt, paths, network, Source::Board)?;
     for part in 0..network.parts() {

@@ -1,4 +1,5 @@
 // What is printed, in words.
+// kept: paths and the sentence on a run's end, as boardsim has them: the example stands alone, so that a reader needs no other program
 use crate::trouble::Trouble;
 use board::nested::Board;
 use clock::dense::Dense;
@@ -10,7 +11,6 @@ use session::places::Event;
 use std::alloc::{AllocError, Global};
 
 // The paths of a board's parts, by their numbers.
-// kept: the example stands alone, so that a reader needs no other program to follow it
 fn paths(heap: Global, board: &Board<Catalogue<Dense>>) -> Result<Vec<String>, AllocError> {
     (0..board.starts().len())
         .map(|part| -> Result<String, AllocError> {

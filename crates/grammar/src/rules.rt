@@ -1,4 +1,5 @@
 // The rule of each line.
+// kept: the rules ask for their letters one by one, since each asks for another
 ghost use Rattle.std.specs.Prelude.{◌≡◌, length, MatchResult, ◌≢◌};
 ghost use Rattle.grammar.specs.Pieces.{split, left};
 ghost use Rattle.grammar.specs.Rules.{first, numbers_of, KindSays, BlockLine, PartLine, WireLine, EndLine, ItemLine, BoardLine, CountsLine, HeaderLine};
@@ -124,6 +125,7 @@ fn part_line(line: Line) -> Result<Statement, LineFault>
 }
 
 // What a line in a block says.
+// kept: a line and its number apart, since these three functions are public
 pub fn item_line(line: &[u8], number: usize) -> Result<Statement, LineFault>
     ensures asks_in_order { ItemLine line.now number (judged line_verdict result) }
 {

@@ -34,6 +34,7 @@ impl<P: Part<C>, C: Clock> Place<P, C> {
 }
 
 // Gives each part its pin set of the row.
+// kept: moment and value apart, as the public `put` is given them
 pub(crate) fn deliver<P: Part<C>, C: Clock>(
     places: &mut [Place<P, C>],
     row: &Row,

@@ -57,7 +57,7 @@ fn print_run<C: Moment>(rt: &HostRuntime, ran: Ran, trace: &[Event<C>]) -> Resul
 }
 
 // Prints an answer, or the number of its refusal.
-fn told<T, F: FnOnce(T) -> Result<(), Trouble>>(
+fn print_answer<T, F: FnOnce(T) -> Result<(), Trouble>>(
     rt: &HostRuntime,
     answer: Result<T, Refusal>,
     print: F,
@@ -86,16 +86,16 @@ fn make<C: Moment>(
             value,
         } => {
             let answer = session.put(network, places, moment, pins, value);
-            told(rt, answer, |_| {
+            print_answer(rt, answer, |_| {
                 println!(rt; "done")?;
                 Ok(())
             })
         }
         Call::Step => {
             let answer = session.step(network, places);
-            told(rt, answer, |firing| print_firing(rt, firing))
+            print_answer(rt, answer, |firing| print_firing(rt, firing))
         }
-        Call::Next => told(rt, next(network, places), |moment| print_next(rt, moment)),
+        Call::Next => print_answer(rt, next(network, places), |moment| print_next(rt, moment)),
         Call::Run {
             horizon,
             budget,
@@ -103,7 +103,7 @@ fn make<C: Moment>(
         } => {
             let mut trace = spare::trace(rt.alloc(), room)?;
             let answer = session.run(network, places, horizon, budget, trace.as_mut_slice());
-            told(rt, answer, |ran| print_run(rt, ran, trace.as_slice()))
+            print_answer(rt, answer, |ran| print_run(rt, ran, trace.as_slice()))
         }
         Call::Lend { places: _ } => Ok(()),
     }

@@ -43,7 +43,7 @@ impl Total {
 }
 
 // Prints the events of one call, unless a summary is wanted.
-// kept: the trace and the count of its records, since it did not prove at the call that the count is within the trace
+// kept: the trace and the count of its records: the proof did not close that the count is within the trace
 fn print_events<C: Moment>(
     rt: &HostRuntime,
     settings: Settings<'_>,

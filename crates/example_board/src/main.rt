@@ -37,7 +37,7 @@ fn simulated(
 
 fn work(rt: &HostRuntime) -> Result<(), Trouble> {
     let heap = rt.alloc();
-    // kept: the example stands alone, so that a reader needs no other program to follow it
+    // kept: a blank record of its own, since the example stands alone
     let blank = Event {
         moment: Dense::zero(),
         part: 0,

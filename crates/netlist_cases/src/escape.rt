@@ -85,6 +85,7 @@ pub fn decoded(heap: Global, text: &[u8]) -> Result<Vec<u8>, Trouble> {
     let mut left = text;
     'runs: while let [first, rest @ ..] = left {
         let run = next_run(*first, rest).ok_or(Trouble::Escape)?;
+        // kept: `as`, which loses nothing
         let length = bytes.len().saturating_add(run.count as usize);
         bytes.resize(length, run.byte)?;
         left = run.rest;

@@ -1,5 +1,5 @@
 // The rule of each line.
-// kept: each rule asks in its own contract for its letter, since each has another one
+// kept: the rules ask for their letters one by one, since each asks for another
 ghost use Rattle.std.specs.Prelude.{◌≡◌, length, MatchResult, ◌≢◌};
 ghost use Rattle.grammar.specs.Pieces.{split, left};
 ghost use Rattle.grammar.specs.Rules.{first, numbers_of, KindSays, BlockLine, PartLine, WireLine, EndLine, ItemLine, BoardLine, CountsLine, HeaderLine};

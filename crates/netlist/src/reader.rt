@@ -38,7 +38,7 @@ struct Drawn<C> {
     bytes: usize,
 }
 
-// The lines of a file, if it has a size that is read.
+// The lines of a file that has a size that is read at all.
 fn lines_of(file: &[u8]) -> Result<Lines<'_>, LineFault>
     ensures begins_or_refuses { MatchResult result (λ lines. Begins file.now lines) (λ e. (Sized file.now → ⊥) × (e ≡ Text BadSize)) }
 {

@@ -46,7 +46,10 @@ pub(crate) fn deliver<P: Part<C>, C: Clock>(
 {
     // kept: numbered, and no `zip`: the proof did not close, since no fact says what `zip` over `iter_mut` wrote
     'parts: for (part, place) in places.iter_mut().enumerate() {
-        *place = place.given(moment, row.sets[part], value);
+        let pins = row.sets[part];
+        if pins != 0 {
+            *place = place.given(moment, pins, value);
+        }
     }
 }
 

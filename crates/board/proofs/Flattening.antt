@@ -50,10 +50,10 @@ module _ (plan : Plan) (W : List Wire) (ew : W ≡ vec_items plan.wires) where
   abbrev P : List Component
   P = vec_items plan.components
 
-  lent_sound : Sound B P W
+  pub lent_sound : Sound B P W
   lent_sound = subst (Sound B P) (sym ew) (plan_sound plan)
 
-  fine_wire : (w : ℕ) → w < length W → Fine B P (wire_at W w).from (wire_at W w).to
+  pub fine_wire : (w : ℕ) → w < length W → Fine B P (wire_at W w).from (wire_at W w).to
   fine_wire w l = fine B P (wire_at W w) (lent_sound.wires_sound w l)
 
   module _ (n m : ℕ) (en : n ≡ vec_len plan.components) (em : m ≡ vec_len plan.blocks) where

@@ -2,7 +2,6 @@
 ghost use Rattle.std.specs.Prelude.{◌≤◌, length, IfOk};
 
 use crate::trouble::Trouble;
-use grammar::word::Word;
 use script::option_word::OptionWord;
 use script::options::Settings;
 use std::env;

@@ -17,7 +17,6 @@ use crate::trouble::Trouble;
 use anyhow::bail;
 use clock::dense::Dense;
 use clock::ticks::Ticks;
-use grammar::word::Word;
 use script::clock_word::ClockWord;
 use script::command::Command;
 use script::option_word::OptionWord;

@@ -7,29 +7,27 @@ ghost use Rattle.drawing.specs.Children.{Fits, IsWanted, IsChild, Stands, wanted
 
 use crate::ends::{Found, Wanted};
 use board::parts::{Block, Component};
-use board::pins::Wire;
+use board::pins::{Pin, Wire};
 use board::plan::Plan;
+use names::name::Name;
+
+// Whether a thing of this block, name and pins is the wanted one.
+fn is_wanted(wanted: &Wanted, block: usize, name: &Name, ins: u8, outs: u8) -> bool
+    ensures value { Decides result (Fits wanted.now block name.now ins outs) }
+{
+    wanted.block == block && wanted.ins <= ins && wanted.outs <= outs && name.spells(&wanted.name)
+}
 
 // A thing that may be a child of a block.
 trait Child {
+    // what asks for just this thing
     ghost asks: { Self → Wanted };
 
     // what stands for one that is absent
     ghost absent: { Self };
 
-    // What asks for just this thing.
-    fn wanted(&self) -> Wanted
-        ensures value { result ≡ asks self.now };
-
     fn fits(&self, wanted: &Wanted) -> bool
-        ensures value { let its = asks self.now in Decides result (Fits wanted.now its.block its.name its.ins its.outs) }
-    {
-        let its = self.wanted();
-        wanted.block == its.block
-            && wanted.ins <= its.ins
-            && wanted.outs <= its.outs
-            && its.name.spells(&wanted.name)
-    }
+        ensures value { let its = asks self.now in Decides result (Fits wanted.now its.block its.name its.ins its.outs) };
 }
 
 impl Child for Block {
@@ -37,13 +35,8 @@ impl Child for Block {
 
     ghost absent = { no_block };
 
-    fn wanted(&self) -> Wanted {
-        Wanted {
-            block: self.parent,
-            name: self.name,
-            ins: self.ins,
-            outs: self.outs,
-        }
+    fn fits(&self, wanted: &Wanted) -> bool {
+        is_wanted(wanted, self.parent, &self.name, self.ins, self.outs)
     }
 }
 
@@ -52,13 +45,8 @@ impl Child for Component {
 
     ghost absent = { no_component };
 
-    fn wanted(&self) -> Wanted {
-        Wanted {
-            block: self.block,
-            name: self.name,
-            ins: self.ins,
-            outs: self.outs,
-        }
+    fn fits(&self, wanted: &Wanted) -> bool {
+        is_wanted(wanted, self.block, &self.name, self.ins, self.outs)
     }
 }
 
@@ -66,11 +54,11 @@ impl Child for Component {
 fn find<C: Child>(things: &[C], first: usize, wanted: &Wanted) -> Option<usize>
     ensures finds_it { MatchOption result ((i : ℕ) → IsWanted C.asks C.absent things.now first wanted.now i → ⊥) (λ i. IsWanted C.asks C.absent things.now first wanted.now i) }
 {
+    // kept: a test of the number, and no `skip`, which asks for it at each thing
     things
         .iter()
         .enumerate()
-        .skip(first)
-        .find(|(_, thing)| thing.fits(wanted))
+        .find(|(number, thing)| first <= *number && thing.fits(wanted))
         .map(|(number, _)| number)
 }
 
@@ -83,9 +71,30 @@ pub(crate) fn find_child(plan: &Plan, wanted: &Wanted) -> Option<Found>
         .or_else(|| find(&plan.blocks, 1, wanted).map(Found::Block))
 }
 
+// kept: by hand, and no derived `==`, which takes half as long again in `has_wire`, over all wires for each new one
+fn same_pin(a: Pin, b: Pin) -> bool
+    ensures value { Decides result (a ≡ b) }
+{
+    match (a, b) {
+        (Pin::PartIn { part: i, pin: k }, Pin::PartIn { part: j, pin: l }) => i == j && k == l,
+        (Pin::PartOut { part: i, pin: k }, Pin::PartOut { part: j, pin: l }) => i == j && k == l,
+        (Pin::BlockIn { block: i, pin: k }, Pin::BlockIn { block: j, pin: l }) => i == j && k == l,
+        (Pin::BlockOut { block: i, pin: k }, Pin::BlockOut { block: j, pin: l }) => i == j
+            && k == l,
+        (_, _) => false,
+    }
+}
+
+fn same_wire(a: Wire, b: Wire) -> bool
+    ensures value { Decides result (a ≡ b) }
+{
+    same_pin(a.from, b.from) && same_pin(a.to, b.to)
+}
+
 // Whether the wire stands already.
 pub(crate) fn has_wire(wires: &[Wire], wire: Wire) -> bool
     ensures value { Decides result (Stands wires.now wire) }
 {
-    wires.contains(&wire)
+    // kept: `any`, and no `contains`, which compares through a call for each wire
+    wires.iter().any(|other| same_wire(*other, wire))
 }

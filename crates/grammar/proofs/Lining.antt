@@ -1,10 +1,10 @@
--- The words of a line, by their index.
-use Rattle.std.proofs.Common.{ℕ, ◌<◌, List, [], length, get_or}
-use Rattle.grammar.specs.Lines.{Word, Words}
-use Rattle.grammar.proofs.Rejoining.{each_at, each_from}
+-- The words of a line, one by one.
+use Rattle.std.proofs.Common.{◌≡◌, ℕ, ◌+◌, List, length, Option, Bor}
+use Rattle.grammar.specs.Pieces.{split, left}
+use Rattle.grammar.specs.Lines.{Words}
 
-pub words_from : (fs : List (List ℕ)) → ((k : ℕ) → k < length fs → Word (get_or fs k [])) → Words fs
-words_from fs each = each_from Word fs [] each
-
-pub words_at : (fs : List (List ℕ)) (k : ℕ) → k < length fs → Words fs → Word (get_or fs k [])
-words_at fs k l words = each_at Word fs k [] l words
+-- while fields are counted: what is left are the fields after those that are passed
+pub record Sofar (line : List ℕ) (rest : Option (Bor (List ℕ))) (count : ℕ) : Type 0 where
+  pub counted : length (split 32 line) ≡ count + length (left 32 rest)
+  pub to_here : Words (split 32 line) → Words (left 32 rest)
+  pub from_here : Words (left 32 rest) → Words (split 32 line)

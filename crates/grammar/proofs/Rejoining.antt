@@ -27,6 +27,9 @@ Free sep text = Each (λ b. b ≡ sep → ⊥) text
 pub free_from_lacks : (sep : ℕ) (text : List ℕ) → Lacks sep text (length text) → Free sep text
 free_from_lacks sep text none = each_from (λ b. b ≡ sep → ⊥) text 0 none
 
+pub lacks_from_free : (sep : ℕ) (text : List ℕ) → Free sep text → Lacks sep text (length text)
+lacks_from_free sep text free k l = each_at (λ b. b ≡ sep → ⊥) text k 0 l free
+
 -- what stands before a separator, and has none, is the first piece
 pub split_line : (sep : ℕ) (line rest : List ℕ) → Free sep line → split sep (line ++ sep ∷ rest) ≡ line ∷ split sep rest
 split_line sep [] rest free = split_here sep sep rest refl
@@ -85,6 +88,19 @@ rejoined_split sep (b ∷ text) =
     ⊎_elim
     (λ e. ap (join_with_byte sep) (split_here sep b text e) ∙ rejoined_here sep (split sep text) (split_some sep text) ∙ (λ i. sym e i ∷ rejoined_split sep text i))
     (λ ne. ap (join_with_byte sep) (split_onto sep b text ne) ∙ rejoined_onto sep b (split sep text) ∙ ap (λ t. b ∷ t) (rejoined_split sep text))
+    (cases_eq b sep)
+
+free_onto : (sep b : ℕ) (fs : List (List ℕ)) → (b ≡ sep → ⊥) → Each (Free sep) fs → Each (Free sep) (onto b fs)
+free_onto sep b [] ne free = ((ne, tt), tt)
+free_onto sep b (f ∷ fs) ne free = ((ne, free.0), free.1)
+
+-- no piece has a separator
+pub split_frees : (sep : ℕ) (text : List ℕ) → Each (Free sep) (split sep text)
+split_frees sep [] = (tt, tt)
+split_frees sep (b ∷ text) =
+    ⊎_elim
+    (λ e. rw (split_here sep b text e) (tt, split_frees sep text))
+    (λ ne. rw (split_onto sep b text ne) (free_onto sep b (split sep text) ne (split_frees sep text)))
     (cases_eq b sep)
 
 -- what holds of the separator and of each byte of the pieces holds of each byte of the whole

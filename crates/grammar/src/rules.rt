@@ -62,7 +62,9 @@ fn end_line(line: Line) -> Result<Statement, LineFault>
     requires letter { first (split 32 line.text.now) ≡ letter_E }
     ensures asks_in_order { EndLine (split 32 line.entry.text.now) line.entry.number (judged line_verdict result) }
 {
-    line.counted(1)?;
+    if line.count != 1 {
+        return Err(LineFault::FieldCount { line: line.number });
+    }
     Ok(Statement::Close)
 }
 

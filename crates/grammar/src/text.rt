@@ -1,5 +1,5 @@
 // The text of a line.
-ghost use Rattle.std.specs.Prelude.{◌≡◌, ℕ, ◌<◌, ◌≤◌, ◌∷◌, [], length, slice_index_or, EachIndex, Decides, MatchOption, MatchResult, ◌≢◌};
+ghost use Rattle.std.specs.Prelude.{◌≡◌, ◌∷◌, [], length, Decides, MatchOption, MatchResult, ◌≢◌};
 ghost use Rattle.grammar.specs.Pieces.{split};
 ghost use Rattle.grammar.specs.Lines.{Word, Tidy};
 ghost use Rattle.grammar.specs.Rules.{first};
@@ -15,28 +15,22 @@ fn is_word(text: &[u8]) -> bool
     !text.is_empty() && text.iter().all(|b| b.is_ascii_graphic())
 }
 
-// Whether all that stands between the spaces of a line is a field.
-fn all_words(text: &[u8]) -> bool
-    ensures value { Decides result (EachIndex (split 32 text.now) (λ k. Word (slice_index_or (split 32 text.now) k []))) }
-{
-    Words::of(text).all(is_word)
-}
-
-// Whether a text is one of a line: short, and of fields with single spaces between them.
-#[tactic(auto, using(crate::proofs::Lining::words_from, crate::proofs::Lining::words_at))]
-fn is_tidy(text: &[u8]) -> bool
-    ensures value { Decides result (Tidy text.now) }
-{
-    text.len() <= 80 && all_words(text)
-}
-
-// How many fields there are between the spaces.
+// How many fields a line has, or nothing where its text is none of a line: short, and of fields with single spaces between them.
 #[tactic(auto, using(crate::proofs::Rejoining::split_few))]
-fn fields_in(text: &[u8]) -> usize
-    requires short { length text.now ≤ 80 }
-    ensures counts_them { result ≡ length (split 32 text.now) }
+fn fields_in(text: &[u8]) -> Option<usize>
+    ensures counts_or_refuses { MatchOption result (Tidy text.now → ⊥) (λ n. Tidy text.now × (n ≡ length (split 32 text.now))) }
 {
-    Words::of(text).count()
+    if text.len() > 80 {
+        return None;
+    }
+    let mut count = 0;
+    'fields: for word in Words::of(text) {
+        if !is_word(word) {
+            return None;
+        }
+        count += 1;
+    }
+    Some(count)
 }
 
 // A line whose text is one of a line, with its number in the file and the count of its fields.
@@ -52,13 +46,11 @@ impl<'a> Line<'a> {
     pub(crate) fn of(text: &'a [u8], number: usize) -> Result<Line<'a>, TextFault>
         ensures passes_or_refuses { MatchResult result (λ line. Tidy text.now × (line.text.now ≡ text.now) × (line.number ≡ number)) (λ e. (Tidy text.now → ⊥) × (e ≡ BadText number)) }
     {
-        if !is_tidy(text) {
-            return Err(TextFault::BadText { line: number });
-        }
+        let count = fields_in(text).ok_or(TextFault::BadText { line: number })?;
         Ok(Line {
             text,
             number,
-            count: fields_in(text),
+            count,
         })
     }
 

@@ -56,12 +56,12 @@ module _ {C : Type 0} (time : Time C) (s : Sheet (Catalogue C)) (open_now : Clos
 
 module _ {C : Type 0} (time : Time C) (here : Place C) (open_now : Closed here.drawn → ⊥) where
   -- a line that gives a verdict
-  line_stops : (after : Lines) (line : List ℕ) (v : Verdict) → Line here.lines line after → LineGives time line here.lines.number here.drawn (Err v) → FromHere time here (Err v)
+  pub line_stops : (after : Lines) (line : List ℕ) (v : Verdict) → Line here.lines line after → LineGives time line here.lines.number here.drawn (Err v) → FromHere time here (Err v)
   line_stops after line v l h =
       subst (λ ps. Goes time ps here.lines.number here.lines.taken here.drawn (Err v)) (sym l.pieces)
       (stops time here.drawn open_now line (split 10 after.rest.now) here.lines.number here.lines.taken v (split_some 10 after.rest.now) h)
 
-  line_goes_on : (there : Place C) (line : List ℕ) → Line here.lines line there.lines → LineGives time line here.lines.number here.drawn (Ok there.drawn) → Continues time here there
+  pub line_goes_on : (there : Place C) (line : List ℕ) → Line here.lines line there.lines → LineGives time line here.lines.number here.drawn (Ok there.drawn) → Continues time here there
   line_goes_on there line l h out g =
       let pieces = split 10 there.lines.rest.now in
       let at_number = subst (λ n. Goes time pieces n there.lines.taken there.drawn out) l.number g in

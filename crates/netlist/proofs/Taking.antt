@@ -91,7 +91,7 @@ pub record BoardOpen {P : Type 0} (after : Sheet P) : Type 0 where
   pub blocks : after.plan.blocks ≡ board ∷ []
   pub open_now : after.current ≡ Some 0
 
-opens_board : {P : Type 0} (name : Name) (ins outs : ℕ) (after : Sheet P) → OpensBlock name ins outs blank after (Ok tt) → BoardOpen after
+pub opens_board : {P : Type 0} (name : Name) (ins outs : ℕ) (after : Sheet P) → OpensBlock name ins outs blank after (Ok tt) → BoardOpen after
 opens_board name ins outs after h =
     let a = placed_ok _ _ _ blank after h in
     let site : a.where_to ≡ record { parent = 0; depth = 0 } = let p = a.placed in cc in

@@ -79,15 +79,29 @@ fn next_run(first: u8, rest: &[u8]) -> Option<Run<'_>>
     }
 }
 
+// Puts a byte so many times at the end. The room is doubled as one push after another would double it, so that a byte after a long run
+// asks for no more.
+fn append(bytes: &mut Vec<u8>, byte: u8, count: u32) -> Result<(), Trouble> {
+    if count == 1 {
+        return Ok(bytes.push(byte)?);
+    }
+    // kept: `as`, which loses nothing
+    let length = bytes.len().saturating_add(count as usize);
+    if length > bytes.capacity() {
+        let room = length.checked_next_power_of_two().unwrap_or(length);
+        // where there is not so much, `resize` asks for what it needs
+        let _doubled = bytes.reserve_exact(room.saturating_sub(bytes.len()));
+    }
+    Ok(bytes.resize(length, byte)?)
+}
+
 // The bytes that an escaped text stands for.
 pub fn decoded(heap: Global, text: &[u8]) -> Result<Vec<u8>, Trouble> {
     let mut bytes = Vec::new(heap);
     let mut left = text;
     'runs: while let [first, rest @ ..] = left {
         let run = next_run(*first, rest).ok_or(Trouble::Escape)?;
-        // kept: `as`, which loses nothing
-        let length = bytes.len().saturating_add(run.count as usize);
-        bytes.resize(length, run.byte)?;
+        append(&mut bytes, run.byte, run.count)?;
         left = run.rest;
     }
     Ok(bytes)

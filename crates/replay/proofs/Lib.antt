@@ -1,4 +1,4 @@
-mod Alike
+pub mod Alike
 pub mod Lending
 pub mod Listing
 pub mod Making

@@ -1,6 +1,7 @@
 // The calls of a list, and what each answers.
 ghost use Rattle.std.specs.Prelude.{◌≡◌};
 ghost use Rattle.replay.specs.Replays.{answered, tells};
+ghost use Rattle.replay.specs.declared.calls.Answer.TheVariants as answer;
 
 use session::answers::{Firing, Ran, Refusal};
 
@@ -51,6 +52,13 @@ impl<C> Answer<C> {
             _ => 0,
         }
     }
+}
+
+// The answer of an input that may be refused.
+pub(crate) fn done<C>(outcome: Result<(), Refusal>) -> Result<Answer<C>, Refusal>
+    ensures is_the_answer { answered (λ answer. answer) result ≡ answered (λ _. answer.Done) outcome }
+{
+    outcome.map(|_| Answer::Done)
 }
 
 // The answer of a call that may be refused.

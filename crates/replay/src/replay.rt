@@ -1,11 +1,11 @@
 // Calls made one after another, and what they leave.
 // kept: board, session, places and trace apart, since each call is lent other slices of places and trace
-ghost use Rattle.std.specs.Prelude.{◌≡◌, ◌<◌, ◌≤◌, length, drop};
+ghost use Rattle.std.specs.Prelude.{◌≡◌, ◌<◌, ◌≤◌, length, drop, slice_set};
 ghost use Rattle.session.specs.Machine.{model, memory};
 ghost use Rattle.session.specs.Calls.{traced, Kept, OnlyOutcome};
 ghost use Rattle.replay.specs.Replays.{Made, answered, OneOutcome, Replay, ReplaysFrom, RestKept, RunsIn, loan, own};
 
-use crate::calls::{Answer, Call, Lent, answer_of};
+use crate::calls::{Answer, Call, Lent, answer_of, done};
 use clock::clock::Clock;
 use coupling::coupling::Coupling;
 use part::part::Part;
@@ -51,10 +51,7 @@ fn make<P: Part<C>, C: Clock, K: Coupling>(
             moment,
             pins,
             value,
-        } => {
-            session.put(coupling, places, moment, pins, value)?;
-            Ok(Answer::Done)
-        }
+        } => done(session.put(coupling, places, moment, pins, value)),
         Call::Step => Ok(Answer::Fired(session.step(coupling, places)?)),
         Call::Next => Ok(Answer::Earliest(next(coupling, places)?)),
         Call::Run {
@@ -84,6 +81,14 @@ fn lend<P: Part<C>, C: Clock, K: Coupling>(
     answer_of(make(coupling, session, &mut places[..count], lent.call, trace))
 }
 
+// Writes an answer to its record.
+fn store<C: Clock>(answers: &mut [Answer<C>], i: usize, answer: Answer<C>)
+    requires in_range { i < length answers.old }
+    ensures writes_the_record { answers.new ≡ slice_set answers.old i answer }
+{
+    answers[i] = answer;
+}
+
 // Makes the calls on an opened session.
 fn make_all<P: Part<C>, C: Clock, K: Coupling>(
     coupling: &K,
@@ -102,7 +107,7 @@ fn make_all<P: Part<C>, C: Clock, K: Coupling>(
     'each: for (i, lent) in calls[..count].iter().enumerate() {
         let answer = lend(coupling, session, places, *lent, &mut trace[events..]);
         events += answer.events();
-        answers[i] = answer;
+        store(answers, i, answer);
     }
     Replayed {
         calls: count,

@@ -1,4 +1,5 @@
 // The words of calls.
+ghost use Rattle.std.specs.Prelude.{◌≡◌, MatchOption, ◌≢◌};
 ghost use Rattle.script.specs.Words.{call_word};
 
 use grammar::word::Word;
@@ -11,6 +12,15 @@ pub enum CallWord {
     Next,
     Run,
     Lend,
+}
+
+impl CallWord {
+    // The call that a word names; it is called without the trait too.
+    pub fn named(word: &[u8]) -> Option<CallWord>
+        ensures names_it_or_refuses { MatchOption result ((k : CallWord) → call_word k ≢ word.now) (λ k. call_word k ≡ word.now) }
+    {
+        <CallWord as Word>::named(word)
+    }
 }
 
 impl Word for CallWord {

@@ -1,4 +1,5 @@
 // The words of commands.
+ghost use Rattle.std.specs.Prelude.{◌≡◌, MatchOption, ◌≢◌};
 ghost use Rattle.script.specs.Words.{command_word};
 
 use grammar::word::Word;
@@ -10,6 +11,15 @@ pub enum Command {
     Run,
     Play,
     Help,
+}
+
+impl Command {
+    // The command that a word names; it is called without the trait too.
+    pub fn named(word: &[u8]) -> Option<Command>
+        ensures names_it_or_refuses { MatchOption result ((k : Command) → command_word k ≢ word.now) (λ k. command_word k ≡ word.now) }
+    {
+        <Command as Word>::named(word)
+    }
 }
 
 impl Word for Command {

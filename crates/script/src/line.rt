@@ -11,7 +11,6 @@ use crate::fields::{pin_set, three_fields};
 use crate::moment::Moment;
 use grammar::cut::first_piece;
 use grammar::numbers::number;
-use grammar::word::Word;
 
 // The moment that the first of three fields writes, and the other two fields.
 fn moment_and_two<C: Moment>(text: &[u8]) -> Option<(C, &[u8], &[u8])>

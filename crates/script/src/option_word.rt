@@ -1,4 +1,5 @@
 // The words of options.
+ghost use Rattle.std.specs.Prelude.{◌≡◌, MatchOption, ◌≢◌};
 ghost use Rattle.script.specs.Words.{option_word};
 
 use grammar::word::Word;
@@ -10,6 +11,15 @@ pub enum OptionWord {
     Budget,
     Clock,
     Summary,
+}
+
+impl OptionWord {
+    // The option that a word names; it is called without the trait too.
+    pub fn named(word: &[u8]) -> Option<OptionWord>
+        ensures names_it_or_refuses { MatchOption result ((k : OptionWord) → option_word k ≢ word.now) (λ k. option_word k ≡ word.now) }
+    {
+        <OptionWord as Word>::named(word)
+    }
 }
 
 impl Word for OptionWord {

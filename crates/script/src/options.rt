@@ -5,7 +5,6 @@ ghost use Rattle.script.specs.Settings.{untold, Sets, Unsettable};
 use crate::clock_word::ClockWord;
 use crate::option_word::OptionWord;
 use grammar::numbers::natural;
-use grammar::word::Word;
 
 // How many steps a run takes that is not told.
 const BUDGET: u64 = 1_000_000;

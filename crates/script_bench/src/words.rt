@@ -1,5 +1,4 @@
 // The words of the command line, and what options set.
-use grammar::word::Word;
 use script::clock_word::ClockWord;
 use script::command::Command;
 use script::option_word::OptionWord;

@@ -6,6 +6,11 @@ use Rattle.session.specs.declared.places.Place.{Place}
 use Rattle.session.specs.Machine.{given, delivered}
 
 module _ {P C : Type 0} (time : Time C) (kind : Kind C P) (m : C) (v : ℕ) where
+  pub delivered_length : (n : ℕ) (sets : ℕ → ℕ) (xs : List (Place P C)) → length (delivered time kind m v n sets xs) ≡ length xs
+  delivered_length zero sets xs = refl
+  delivered_length (suc n) sets [] = refl
+  delivered_length (suc n) sets (x ∷ xs) = ap suc (delivered_length n (λ i. sets (suc i)) xs)
+
   -- what is not reached yet is as it was
   pub delivered_after : (n : ℕ) (sets : ℕ → ℕ) (xs : List (Place P C)) (j : ℕ) (d : Place P C) → n ≤ j → get_or (delivered time kind m v n sets xs) j d ≡ get_or xs j d
   delivered_after zero sets xs j d h = refl

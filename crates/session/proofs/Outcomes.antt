@@ -1,9 +1,9 @@
 -- Each call's relation pins its outcome.
-use Rattle.std.proofs.Common.{◌≡◌, ℕ, false, cond, eqb, ◌⊎◌, List, Some, None, Ok, Err, Option, Result, sym, refl, ap, ◌∙◌, subst₂, inl, inr}
+use Rattle.std.proofs.Common.{◌≡◌, ℕ, false, cond, eqb, ◌⊎◌, List, Some, None, Ok, Err, Option, Result, sym, refl, ap, ◌∙◌, subst₂, inl, inr, arith}
 use Rattle.asking.proofs.Only.{ask_only}
 use Rattle.clock.specs.Time.{Laws}
 use Rattle.session.specs.Machine.{Model, Memory, dues, Imminent, NoneDue, event_of}
-use Rattle.session.specs.Calls.{Asks, Refuses, OnlyOutcome, Next, Puts, Steps, told, after_firing}
+use Rattle.session.specs.Calls.{Asks, Refuses, Kept, OnlyOutcome, Opens, Next, Puts, Steps, told, after_firing}
 use Rattle.session.specs.declared.places.Place.{Place}
 use Rattle.session.specs.Numbers.{refusal_number}
 use Rattle.session.specs.declared.answers.Refusal.{Refusal}
@@ -35,11 +35,35 @@ pub asks_only : {T M : Type 0} {bad : Type 0} {before : M} (n : ℕ) (after othe
     Asks bad n before after r on → Asks bad n before other q off → (on → off → (other ≡ after) × (q ≡ r)) → (other ≡ after) × (q ≡ r)
 asks_only n after other r q h k go = ask_only (λ a b. (b.1 ∙ sym a.1, refused_is n q b.0 ∙ sym (refused_is n r a.0))) go h k
 
+-- a refusal of a question keeps memory, if what follows does
+pub asks_kept : {T M : Type 0} {bad : Type 0} {before : M} (n : ℕ) (after : M) (r : Result T Refusal) {on : Type 0} →
+    Asks bad n before after r on → (on → Kept before after r) → Kept before after r
+asks_kept n after (Ok x) a go = tt
+asks_kept n after (Err e) (inl a) go = a.1.1
+asks_kept n after (Err e) (inr a) go = go a.1
+
+pub ok_kept : {T M : Type 0} (before after : M) (r : Result T Refusal) (x : T) → r ≡ Ok x → Kept before after r
+ok_kept before after (Ok y) x e = tt
+ok_kept before after (Err y) x e = let z : ◌≡◌ {A = ℕ} 0 1 = cc in absurd (omega arith)
+
 module _ {P C : Type 0} (M : Model P C) where
+  pub opens_only : (starts : List P) (before after : Memory P C) (r : Result Unit Refusal) → Opens M starts before after r → OnlyOutcome (Opens M starts before) after r
+  opens_only starts before after r h other q k = asks_only 11 after other r q h k (λ a b. (b.1 ∙ sym a.1, b.0 ∙ sym a.0))
+
+  pub opens_kept : (starts : List P) (before after : Memory P C) (r : Result Unit Refusal) → Opens M starts before after r → Kept before after r
+  opens_kept starts before after r h = asks_kept 11 after r h (λ a. ok_kept before after r tt a.0)
+
   pub puts_only : (m : C) (pins v : ℕ) (before after : Memory P C) (r : Result Unit Refusal) → Puts M m pins v before after r → OnlyOutcome (Puts M m pins v before) after r
   puts_only m pins v before after r h other q k =
       asks_only 11 after other r q h k (λ a b. asks_only 12 after other r q a b (λ a b. asks_only 13 after other r q a b (λ a b. asks_only 14 after other r q a b (λ a b. asks_only 15 after other r q a b
       (λ a b. (b.1 ∙ sym a.1, b.0 ∙ sym a.0))))))
+
+  pub puts_kept : (m : C) (pins v : ℕ) (before after : Memory P C) (r : Result Unit Refusal) → Puts M m pins v before after r → Kept before after r
+  puts_kept m pins v before after r h =
+      asks_kept 11 after r h (λ a. asks_kept 12 after r a (λ a. asks_kept 13 after r a (λ a. asks_kept 14 after r a (λ a. asks_kept 15 after r a (λ a. ok_kept before after r tt a.0)))))
+
+  pub steps_kept : (before after : Memory P C) (r : Result (Firing C) Refusal) → Steps M before after r → Kept before after r
+  steps_kept before after r h = asks_kept 11 after r h (λ a. asks_kept 16 after r a (λ a. asks_kept 17 after r a.3 (λ a. ok_kept before after r _ a.0)))
 
   module _ (laws : Laws M.time) where
     pub steps_only : (before after : Memory P C) (r : Result (Firing C) Refusal) → Steps M before after r → OnlyOutcome (Steps M before) after r

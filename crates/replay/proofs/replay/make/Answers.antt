@@ -7,26 +7,21 @@ use Rattle.replay.specs.Replays.{answered}
 use Rattle.replay.proofs.Making.{put_made, step_made, next_made, run_made}
 use Rattle.replay.proofs.replay.make.Goals as goal
 
-pub returns-in_err-put-in-Put : goal.returns-in_err-put-in-Put
-returns-in_err-put-in-Put g c =
+pub returns-in-Put : goal.returns-in-Put
+returns-in-Put g c =
     let M = model g.C.Clock.time g.P.Part.kind (g.K.Coupling.wiring c.args.coupling.now) in
     let before = memory c.args.places.now c.args.session.now.now in
-    let p = err_from_is_err_and c.from_residual.result c.from_residual.ensures.1 in
-    let is = ap (answered (λ answer. answer)) (p.1 ∙ ap Err p.2) ∙ sym (ap (answered (λ _. answer.Done)) c.in_err-put-in-Put.was) in
-    record { makes_the_call = put_made M before c.args.trace.now c.args.call c.in-Put.moment c.in-Put.pins c.in-Put.value (memory c.put.new.places c.put.new.self.now) c.put.result _ c.in-Put.is is c.put.ensures.delivers_the_input }
-
-pub returns-in_ok-put-in-Put : goal.returns-in_ok-put-in-Put
-returns-in_ok-put-in-Put g c =
-    let M = model g.C.Clock.time g.P.Part.kind (g.K.Coupling.wiring c.args.coupling.now) in
-    let before = memory c.args.places.now c.args.session.now.now in
-    let is = sym (ap (answered (λ _. answer.Done)) c.in_ok-put-in-Put.was) in
-    record { makes_the_call = put_made M before c.args.trace.now c.args.call c.in-Put.moment c.in-Put.pins c.in-Put.value (memory c.put.new.places c.put.new.self.now) c.put.result _ c.in-Put.is is c.put.ensures.delivers_the_input }
+    record {
+      makes_the_call =
+          put_made M before c.args.trace.now c.args.call c.in-Put.moment c.in-Put.pins c.in-Put.value (memory c.put.new.places c.put.new.self.now) c.put.result _
+          c.in-Put.is c.done.ensures.is_the_answer c.put.ensures.delivers_the_input;
+    }
 
 pub returns-in_err-step-in-Step : goal.returns-in_err-step-in-Step
 returns-in_err-step-in-Step g c =
     let M = model g.C.Clock.time g.P.Part.kind (g.K.Coupling.wiring c.args.coupling.now) in
     let before = memory c.args.places.now c.args.session.now.now in
-    let p = err_from_is_err_and c.from_residual-in_err-step-in-Step.result c.from_residual-in_err-step-in-Step.ensures.1 in
+    let p = err_from_is_err_and c.from_residual.result c.from_residual.ensures.1 in
     let is = ap (answered (λ answer. answer)) (p.1 ∙ ap Err p.2) ∙ sym (ap (answered answer.Fired) c.in_err-step-in-Step.was) in
     record { makes_the_call = step_made M before c.args.trace.now c.args.call (memory c.step.new.places c.step.new.self.now) c.step.result _ c.in-Step.is is c.step.ensures.fires_the_imminent_part }
 

@@ -1,4 +1,4 @@
-use Rattle.std.proofs.Common.{◌≡◌, ◌+◌, ◌-◌, ◌<◌, ◌++◌, length, get_or, take, drop, set, sym, refl, ◌∙◌, subst, arith, rules}
+use Rattle.std.proofs.Common.{◌≡◌, ◌+◌, ◌-◌, ◌<◌, ◌++◌, length, get_or, take, drop, set, sym, refl, ◌∙◌, subst₂, arith}
 use Rattle.std.proofs.lemmas.List.{take_rest, get_or-take, length-take-le}
 use Rattle.session.specs.Machine.{model}
 use Rattle.replay.specs.Replays.{own, loan}
@@ -8,17 +8,6 @@ use Rattle.replay.proofs.replay.make_all.Goals as goal
 
 pub each-init : goal.each-init
 each-init g c = at_start _ c.args.calls.now _
-
-pub bounds-answers-i : goal.bounds-answers-i
-bounds-answers-i g c =
-    let long = length-take-le c.min-count.result c.args.calls.now (omega (arith, c.min-count.ensures)) in
-    omega (arith, c.each-test.true, long, c.min-count.ensures, c.each.auto.answers)
-
-pub offset_bounds-answers-i : goal.offset_bounds-answers-i
-offset_bounds-answers-i g c =
-    let long = length-take-le c.min-count.result c.args.calls.now (omega (arith, c.min-count.ensures)) in
-    let here : c.each.i < length c.args.answers.now = omega (arith, c.each-test.true, long, c.min-count.ensures) in
-    search rules
 
 pub each-preserved : goal.each-preserved
 each-preserved g c =
@@ -40,8 +29,8 @@ each-preserved g c =
     after_call M start list before c.each.i n (loan c.each.places c.each.session.now c.each.answers trace) lent a c.lend-answer.new.places c.lend-answer.new.session.now
     (take (length trace - n) (drop n trace)) c.lend-answer.new.trace (take n trace ++ (c.lend-answer.new.trace ++ drop (length trace - n) (drop n trace))) c.each.invariant in_list in_answers read
     (take_rest trace n) c.lend-answer.auto.trace (put_last n (length trace - n) trace c.lend-answer.new.trace refl) c.lend-answer.ensures.the_machine_makes_it c.lend-answer.ensures.leaves_spare_places in
-    subst (λ k. Sofar M start list before (c.each.i + 1) (n + k) (loan c.lend-answer.new.places c.lend-answer.new.session.now (set c.each.answers c.each.i a) (take n trace ++ (c.lend-answer.new.trace ++ drop (length trace - n) (drop n trace)))))
-    (sym c.events-events.ensures.is_the_count_of_a_run) step
+    subst₂ (λ k l. Sofar M start list before (c.each.i + 1) (n + k) (loan c.lend-answer.new.places c.lend-answer.new.session.now l (take n trace ++ (c.lend-answer.new.trace ++ drop (length trace - n) (drop n trace)))))
+    (sym c.events-events.ensures.is_the_count_of_a_run) (sym c.store.ensures.writes_the_record) step
 
 pub returns : goal.returns
 returns g c =

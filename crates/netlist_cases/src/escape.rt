@@ -1,6 +1,6 @@
 // The escaped form of a case. \\ is a backslash, \n byte 10, \xNN the byte with that hexadecimal number, and \{BYTE*COUNT} so many times the
 // byte with that decimal number; every other byte stands for itself.
-ghost use Rattle.std.specs.Prelude.{◌≡◌, ◌<◌, ◌≤◌, length, IfSome};
+ghost use Rattle.std.specs.Prelude.{◌≡◌, ◌<◌, ◌≤◌, ◌++◌, length, replicate, IfSome, MatchResult};
 
 use crate::trouble::Trouble;
 use std::alloc::Global;
@@ -81,7 +81,9 @@ fn next_run(first: u8, rest: &[u8]) -> Option<Run<'_>>
 
 // Puts a byte so many times at the end. The room is doubled as one push after another would double it, so that a byte after a long run
 // asks for no more.
-fn append(bytes: &mut Vec<u8>, byte: u8, count: u32) -> Result<(), Trouble> {
+fn append(bytes: &mut Vec<u8>, byte: u8, count: u32) -> Result<(), Trouble>
+    ensures puts_so_many_or_none { MatchResult result (λ _. bytes.new.items ≡ bytes.old.items ++ replicate count byte) (λ _. bytes.new.items ≡ bytes.old.items) }
+{
     if count == 1 {
         return Ok(bytes.push(byte)?);
     }

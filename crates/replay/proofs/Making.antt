@@ -1,5 +1,5 @@
 -- One call: from a session's relation to the machine's.
-use Rattle.std.proofs.Common.{◌≡◌, ℕ, ◌<◌, ◌≤◌, min, List, [], ◌++◌, length, take, drop, Ok, Err, Option, Result, sym, refl, ap, ◌∙◌, subst, inl, inr, arith}
+use Rattle.std.proofs.Common.{◌≡◌, ℕ, ◌<◌, ◌≤◌, min, List, [], ◌++◌, length, take, drop, Ok, Err, Option, Result, sym, refl, ap, ◌∙◌, subst, inl, inr, arith, MatchResult}
 use Rattle.std.proofs.lemmas.List.{take-append-drop, append_assoc, drop-append-le, length-take, length-drop, length-append}
 use Rattle.session.specs.Machine.{Model, Memory}
 use Rattle.session.specs.Calls as calls
@@ -24,6 +24,12 @@ silent f none (Err e) = refl
 silent_refused : {T C : Type 0} (f : T → Answer C) (n : ℕ) (r : Result T Refusal) → Refuses n r → tells (answered f r) ≡ 0
 silent_refused f n (Ok x) h = absurd h
 silent_refused f n (Err e) h = refl
+
+-- the answer of an input, done or refused
+pub done_answers : {C : Type 0} (outcome : Result Unit Refusal) (r : Result (Answer C) Refusal) → MatchResult outcome (λ _. r ≡ Ok answer.Done) (λ e. r ≡ Err e) →
+    answered (λ a. a) r ≡ answered (λ _. answer.Done) outcome
+done_answers (Ok x) r h = ap (answered (λ a. a)) h
+done_answers (Err e) r h = ap (answered (λ a. a)) h
 
 -- a call that is lent all the places of a memory
 asked : {T P C : Type 0} {bad on rules : Type 0} (n : ℕ) (before after : Memory P C) (r : Result T Refusal) →

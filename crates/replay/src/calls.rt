@@ -1,5 +1,5 @@
 // The calls of a list, and what each answers.
-ghost use Rattle.std.specs.Prelude.{◌≡◌};
+ghost use Rattle.std.specs.Prelude.{◌≡◌, Ok, Err, MatchResult};
 ghost use Rattle.replay.specs.Replays.{answered, tells};
 ghost use Rattle.replay.specs.declared.calls.Answer.TheVariants as answer;
 
@@ -56,7 +56,7 @@ impl<C> Answer<C> {
 
 // The answer of an input that may be refused.
 pub(crate) fn done<C>(outcome: Result<(), Refusal>) -> Result<Answer<C>, Refusal>
-    ensures is_the_answer { answered (λ answer. answer) result ≡ answered (λ _. answer.Done) outcome }
+    ensures is_done_or_the_refusal { MatchResult outcome (λ _. result ≡ Ok answer.Done) (λ e. result ≡ Err e) }
 {
     outcome.map(|_| Answer::Done)
 }

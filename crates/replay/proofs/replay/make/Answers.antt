@@ -4,7 +4,7 @@ use Rattle.session.specs.Machine.{model, memory}
 use Rattle.session.specs.Calls.{traced}
 use Rattle.replay.specs.declared.calls.Answer.TheVariants as answer
 use Rattle.replay.specs.Replays.{answered}
-use Rattle.replay.proofs.Making.{put_made, step_made, next_made, run_made}
+use Rattle.replay.proofs.Making.{done_answers, put_made, step_made, next_made, run_made}
 use Rattle.replay.proofs.replay.make.Goals as goal
 
 pub returns-in-Put : goal.returns-in-Put
@@ -14,7 +14,7 @@ returns-in-Put g c =
     record {
       makes_the_call =
           put_made M before c.args.trace.now c.args.call c.in-Put.moment c.in-Put.pins c.in-Put.value (memory c.put.new.places c.put.new.self.now) c.put.result _
-          c.in-Put.is c.done.ensures.is_the_answer c.put.ensures.delivers_the_input;
+          c.in-Put.is (done_answers c.put.result _ c.done.ensures.is_done_or_the_refusal) c.put.ensures.delivers_the_input;
     }
 
 pub returns-in_err-step-in-Step : goal.returns-in_err-step-in-Step
